@@ -1,0 +1,34 @@
+-- Machine units, and coarse cycles of eight of them.
+use Rattle.std.specs.Prelude.{ℕ, ◌+◌, ◌*◌, ◌/◌, ℤ, pos, negsuc, ◌+ℤ◌}
+use Rattle.std.specs.Int.{int_wrap, w64}
+use Rattle.rtio_types.specs.declared.event.Event.{Event}
+use Rattle.rtio_types.specs.Integers.{floor_quotient}
+
+-- the coarse cycle of a stamp: an eighth of it, rounded down
+abbrev pub coarse_of : ℤ → ℤ
+coarse_of stamp = floor_quotient stamp (pos 8)
+
+-- a number as it is, and 0 for a negative one
+abbrev pub at_least_zero : ℤ → ℕ
+at_least_zero (pos n) = n
+at_least_zero (negsuc n) = 0
+
+-- the coarse cycle of an event; one before cycle 0 counts as 0, since no counter is below it
+abbrev pub cycle_of : Event → ℕ
+cycle_of event = at_least_zero (coarse_of event.stamp)
+
+-- what a counter of cycles reads in machine units
+abbrev pub reading : ℕ → ℕ
+reading counter = 8 * counter
+
+-- the least counter whose reading is at least a moment
+abbrev pub counter_reaching : ℤ → ℕ
+counter_reaching moment = (at_least_zero moment + 7) / 8
+
+-- a moment moved on by a time, wrapping at 64 bits
+abbrev pub later : ℤ → ℤ → ℤ
+later moment time = int_wrap w64 (moment +ℤ time)
+
+-- an event with its stamp moved on by a time
+abbrev pub shifted : Event → ℤ → Event
+shifted event time = record event { stamp = later event.stamp time }
