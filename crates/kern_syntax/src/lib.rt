@@ -1,0 +1,14 @@
+//! The syntax trees of kernels, as ordinary types; contracts speak of them by the plain tree of `specs/Tree`.
+#![tactic(auto)]
+
+mod counting;
+mod expression;
+mod identifier;
+mod program;
+mod statement;
+
+pub use counting::nodes_of_expression;
+pub use expression::{Argument, BinaryOperator, Comparison, Expr, UnaryOperator};
+pub use identifier::Identifier;
+pub use program::{DeclaredType, Function, Parameter, ParameterList, Program};
+pub use statement::{Augment, Block, Elif, Handler, Stmt, StmtKind, Target};

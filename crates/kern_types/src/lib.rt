@@ -1,0 +1,6 @@
+//! The types of kernels, and the calls that the language has of itself.
+#![tactic(auto)]
+
+mod types;
+
+pub use types::{TypeKind, ValueType, wider};
