@@ -1,13 +1,15 @@
 // Lists that contracts see as lists, and a recording as a list and a number.
+
 ghost use Rattle.std.specs.Prelude.{◌≡◌, IfOk};
 
 use crate::{Edge, Event};
 use std::alloc::{AllocError, Global};
 use std::marker::Model;
 
+/// A list of numbers, which contracts see as that list.
 #[derive(Debug, Drop)]
 pub struct IntList {
-    list: Vec<i64>,
+    numbers: Vec<i64>,
 }
 
 impl Model for IntList {
@@ -15,7 +17,7 @@ impl Model for IntList {
 
     ghost Value = { List ℤ };
 
-    ghost view = { λ l. l.list.items };
+    ghost view = { λ l. l.numbers.items };
 }
 
 impl IntList {
@@ -23,29 +25,30 @@ impl IntList {
     pub fn of(items: Vec<i64>) -> IntList
         ensures { result ≡ items.items }
     {
-        IntList { list: items }
+        IntList { numbers: items }
     }
 
     /// The numbers in order.
     pub fn items(&self) -> &[i64]
         ensures { result.now ≡ self.now }
     {
-        self.list.as_slice()
+        self.numbers.as_slice()
     }
 
-    /// An equal list.
+    /// An equal list; the only error is want of memory.
     pub fn copy(&self, alloc: Global) -> Result<IntList, AllocError>
         ensures { IfOk result (λ copy. copy ≡ self.now) }
     {
         Ok(IntList {
-            list: Vec::from_slice(alloc, self.list.as_slice())?,
+            numbers: Vec::from_slice(alloc, self.numbers.as_slice())?,
         })
     }
 }
 
+/// A list of edges, which contracts see as that list.
 #[derive(Debug, Drop)]
 pub struct EdgeList {
-    list: Vec<Edge>,
+    edges: Vec<Edge>,
 }
 
 impl Model for EdgeList {
@@ -54,7 +57,7 @@ impl Model for EdgeList {
 
     ghost Value = { List Edge };
 
-    ghost view = { λ l. l.list.items };
+    ghost view = { λ l. l.edges.items };
 }
 
 impl EdgeList {
@@ -62,27 +65,28 @@ impl EdgeList {
     pub fn of(items: Vec<Edge>) -> EdgeList
         ensures { result ≡ items.items }
     {
-        EdgeList { list: items }
+        EdgeList { edges: items }
     }
 
     /// The edges in order.
     pub fn items(&self) -> &[Edge]
         ensures { result.now ≡ self.now }
     {
-        self.list.as_slice()
+        self.edges.as_slice()
     }
 
-    /// An equal list.
+    /// An equal list; the only error is want of memory.
     pub fn copy(&self, alloc: Global) -> Result<EdgeList, AllocError>
         ensures { IfOk result (λ copy. copy ≡ self.now) }
     {
         Ok(EdgeList {
-            list: Vec::from_slice(alloc, self.list.as_slice())?,
+            edges: Vec::from_slice(alloc, self.edges.as_slice())?,
         })
     }
 }
 
-/// Recorded events, with stamps from the recording's start, and the recording's length.
+/// The outputs of a recorded block in order, with stamps from the block's start, and the block's length, both in
+/// machine units (mu).
 #[derive(Debug, Drop)]
 pub struct Recording {
     pub events: Vec<Event>,
@@ -98,7 +102,7 @@ impl Model for Recording {
 }
 
 impl Recording {
-    /// An equal recording.
+    /// An equal recording; the only error is want of memory.
     pub fn copy(&self, alloc: Global) -> Result<Recording, AllocError>
         ensures { IfOk result (λ copy. copy ≡ self.now) }
     {

@@ -6,7 +6,7 @@ ghost use Rattle.rtio_types.specs.Names.{is_name};
 use std::marker::Model;
 
 /// The name of a recording or dataset: 1 to 32 letters, digits or underscores. It owns no memory.
-#[derive(Clone, Copy, Debug)]
+#[derive(Clone, Copy, Debug, PartialEq, Eq)]
 pub struct Name {
     text: [u8; 32],
     count: u8,

@@ -3,9 +3,10 @@
 ghost use Rattle.std.specs.Prelude.{◌≡◌, IfOk};
 ghost use Rattle.rtio_types.specs.Requests.{fits_request, is_well_formed, request_waiting};
 
-use crate::{Event, IntList, Name, Recording};
+use crate::{ChannelKind, Event, IntList, Name, Recording, kind_of};
 use std::alloc::{AllocError, Global};
 
+/// The value of a dataset.
 #[derive(Debug, Drop)]
 pub enum Value {
     Int(i64),
@@ -15,36 +16,58 @@ pub enum Value {
 /// What a kernel asks of a core.
 #[derive(Debug, Drop)]
 pub enum Request {
+    /// Puts an output on the timeline.
     Out(Event),
+    /// Reads the counter.
     Counter,
+    /// Clears what isn't put out yet and what wasn't read yet, and reads the counter.
     Reset,
+    /// Waits until the counter reads at least `until` mu.
     Wait { until: i64 },
+    /// Takes the first unread edge of an input, if its stamp is below `up_to` mu.
     Edge { channel: u8, up_to: i64 },
+    /// Keeps a recording under a name.
     Save { name: Name, recording: Recording },
+    /// Brings the recording of a name.
     Fetch { name: Name },
+    /// Brings the recording that a handle stands for.
     FetchHandle { handle: i64 },
+    /// Gives a handle of the recording of a name.
     Handle { name: Name },
+    /// Forgets the recording of a name.
     Erase { name: Name },
+    /// Sets a dataset.
     Data { name: Name, value: Value },
 }
 
 /// What a core answers.
 #[derive(Debug, Drop)]
 pub enum Reply {
+    /// The request was carried out.
     Done,
+    /// The cycle of the output wasn't above the counter any more.
     Underflow,
+    /// What the counter reads, in mu.
     Time(i64),
+    /// The stamp of an edge, in mu.
     Stamp(i64),
+    /// There is no unread edge with a stamp below the bound.
     NoEdge,
+    /// Edges of the input were lost.
     Overflow,
+    /// The recording asked for.
     Trace(Recording),
+    /// The handle asked for.
     Handle(i64),
+    /// No recording has this name.
     NoTrace,
+    /// The handle stands for no recording any more.
     OldHandle,
+    /// There is no room for one more name.
     Full,
 }
 
-/// A request that may wait for its answer.
+/// A request that a core may be unable to answer at once.
 #[derive(Clone, Copy, Debug, PartialEq, Eq)]
 pub enum Waiting {
     Out(Event),
@@ -53,6 +76,7 @@ pub enum Waiting {
 }
 
 impl Waiting {
+    /// The request that waits.
     pub fn request(self) -> Request
         ensures { result ≡ request_waiting self }
     {
@@ -65,7 +89,7 @@ impl Waiting {
 }
 
 impl Value {
-    /// An equal value.
+    /// An equal value; the only error is want of memory.
     pub fn copy(&self, alloc: Global) -> Result<Value, AllocError>
         ensures { IfOk result (λ copy. copy ≡ self.now) }
     {
@@ -77,7 +101,7 @@ impl Value {
 }
 
 impl Reply {
-    /// An equal reply.
+    /// An equal reply; the only error is want of memory.
     pub fn copy(&self, alloc: Global) -> Result<Reply, AllocError>
         ensures { IfOk result (λ copy. copy ≡ self.now) }
     {
@@ -98,7 +122,7 @@ impl Reply {
 }
 
 impl Request {
-    /// An equal request.
+    /// An equal request; the only error is want of memory.
     pub fn copy(&self, alloc: Global) -> Result<Request, AllocError>
         ensures { IfOk result (λ copy. copy ≡ self.now) }
     {
@@ -127,7 +151,8 @@ impl Request {
     }
 }
 
-/// Whether a reply may answer a request.
+/// Whether a reply is one that the request may get. A stamp is at least 0, and the events of a recording that is
+/// brought are of the board.
 pub fn fits(request: &Request, reply: &Reply) -> bool
     ensures { result ≡ fits_request request.now reply.now }
 {
@@ -148,18 +173,33 @@ pub fn fits(request: &Request, reply: &Reply) -> bool
     }
 }
 
+/// Whether a core can be asked this: events have a channel and an address of the board, a recording fewer than 2^32
+/// events, and an edge is asked of an input.
+pub fn well_formed(request: &Request) -> bool
+    ensures { result ≡ is_well_formed request.now }
+{
+    match request {
+        Request::Out(event) => event_of_board(event),
+        Request::Edge { channel, .. } => matches!(kind_of(*channel), Some(ChannelKind::Input)),
+        Request::Save { recording, .. } => {
+            recording.events.len() < 1 << 32 && of_board(&recording.events)
+        }
+        _ => true,
+    }
+}
+
 ghost use Rattle.rtio_types.specs.Board.{is_of_board, are_of_board};
 
+// Whether the event names a channel of the board and one of its addresses.
 fn event_of_board(event: &Event) -> bool
     ensures { result ≡ is_of_board event.now }
 {
     let address = event.address;
-    if event.channel < 16 {
-        address == 0
-    } else if event.channel < 24 {
-        true
-    } else {
-        event.channel < 32 && address == 2
+    match kind_of(event.channel) {
+        Some(ChannelKind::Out) => address == 0,
+        Some(ChannelKind::OutRaw) => true,
+        Some(ChannelKind::Input) => address == 2,
+        None => false,
     }
 }
 
@@ -167,18 +207,4 @@ fn of_board(events: &[Event]) -> bool
     ensures { result ≡ are_of_board events.now }
 {
     events.iter().all(|event| event_of_board(event))
-}
-
-/// Whether a core can be asked this.
-pub fn well_formed(request: &Request) -> bool
-    ensures { result ≡ is_well_formed request.now }
-{
-    match request {
-        Request::Out(event) => event_of_board(event),
-        Request::Edge { channel, .. } => 24 <= *channel && *channel < 32,
-        Request::Save { recording, .. } => {
-            recording.events.len() < 4294967296 && of_board(&recording.events)
-        }
-        _ => true,
-    }
 }
