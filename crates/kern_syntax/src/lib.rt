@@ -7,7 +7,7 @@ mod identifier;
 mod program;
 mod statement;
 
-pub use counting::nodes_of_expression;
+pub use counting::nodes;
 pub use expression::{Argument, BinaryOperator, Comparison, Expr, UnaryOperator};
 pub use identifier::Identifier;
 pub use program::{DeclaredType, Function, Parameter, ParameterList, Program};

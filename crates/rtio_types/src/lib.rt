@@ -8,6 +8,8 @@ mod lists;
 mod name;
 mod outcome;
 mod request;
+#[cfg(test)]
+mod tests;
 mod time;
 
 pub use board::{ChannelKind, channel_named, kind_of};
