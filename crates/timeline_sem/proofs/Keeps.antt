@@ -21,12 +21,8 @@ use Rattle.kern_syntax.specs.declared.expression.BinaryOperator.{BinaryOperator}
 use Rattle.timeline_sem.specs.Actions.{State, Reason, budget, raised, Completion, normal, early, Action, go_on, give, skip, stop, take_unit_of, take_unit, next_reply_of, raise_if, ask, request, cursor_now, set_cursor, ◌>>=◌, ◌>>◌}
 use Rattle.timeline_sem.specs.Timeline.{delay, tell, inquire, append_event, submit_or_collect, output, gate, on_edge, count_edges, count_all_edges, play_events, play_reply, play, pulse_for, move_to_real_time, reset_core, no_value, perform, event_at}
 use Rattle.timeline_sem.specs.Numbers.{exact_result}
+use Rattle.timeline_sem.specs.Laws.{final}
 use Rattle.timeline_sem.specs.Expressions.{Callee, array_or_number, read, write as write_name, or_raise, place_in, with_item, list_in_value, number_in_value, read_element, write_element, operate, array_in, dataset_value, text_in, perform_builtin, perform_call, perform_method, unless_decided, expression, arguments}
-
--- the state at a part's end
-abbrev pub final : {A : Type 0} → Completion A → State
-final (normal a s) = s
-final (early reason s) = s
 
 -- a relation that each small change of a state keeps
 pub record IsKept (R : State → State → Type 0) : Type 0 where

@@ -15,9 +15,9 @@ use Rattle.kern_types.specs.Types.{Scope, type_of, names_of, function_named}
 use Rattle.timeline_sem.specs.Actions.{State, break, continue, return, raised, budget, unanswered, Completion, normal, early, Action, stop, take_unit}
 use Rattle.timeline_sem.specs.Expressions.{Callee, number_in_value, expression}
 use Rattle.timeline_sem.specs.Statements.{operator_of, when, either, after_turn, turn, while_turns, while_loop, for_turns, leave_recording, save_request, save_after, end_recording, recorded, after_try, attempt, values, optional_value, statement, block, parallel_block, otherwise, handler, name_of_exception}
-use Rattle.timeline_sem.specs.Laws.{UnitsNeverRise}
+use Rattle.timeline_sem.specs.Laws.{UnitsNeverRise, RequestsAreOnlyAdded, final}
 use Rattle.timeline_sem.specs.Programs.{meaning_of, opening, call_room, leave_function, optional_body, function_call}
-use Rattle.timeline_sem.proofs.Keeps.{IsKept, Keeps, final, keeps_bind, keeps_then, keeps_give, keeps_stop, keeps_skip, keeps_take_unit, keeps_ask, keeps_cursor_now, keeps_set_cursor, keeps_read, keeps_write, keeps_read_element, keeps_write_element, keeps_operate, keeps_expression}
+use Rattle.timeline_sem.proofs.Keeps.{IsKept, Keeps, keeps_bind, keeps_then, keeps_give, keeps_stop, keeps_skip, keeps_take_unit, keeps_ask, keeps_cursor_now, keeps_set_cursor, keeps_read, keeps_write, keeps_read_element, keeps_write_element, keeps_operate, keeps_expression}
 
 module _ (R : State → State → Type 0) (law : IsKept R) where
   keeps_when : (b : Bool) (action : Action ⊤) → Keeps R law action → Keeps R law (when b action)
@@ -219,3 +219,8 @@ pub units_of_functions : (program : ProgramTree) → UnitsNeverRise program
 units_of_functions program function args cursor units replies =
     let c = optional_body program (function_call program call_room) (slice_get program function) args (opening cursor units replies) in
     omega (arith, units_of_meaning c, units_never_rise program call_room (slice_get program function) args (opening cursor units replies))
+
+-- a call keeps the requests asked before it
+pub requests_of_calls : (program : ProgramTree) → RequestsAreOnlyAdded program
+requests_of_calls program room name args s =
+    (keeps_function_call AskedGrow asked_grow program room name args).from s

@@ -1,6 +1,8 @@
-//! The meaning of kernels on the timeline: what a function asks of a core, request by request.
+//! The meaning of kernels on the timeline: what a function asks of a core, request by request, and how it ends.
 #![tactic(auto)]
 
+mod laws;
 mod meant;
 
+pub use laws::{requests_are_only_added, units_never_rise};
 pub use meant::MeantOutcome;
