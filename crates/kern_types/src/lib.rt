@@ -3,4 +3,4 @@
 
 mod types;
 
-pub use types::{TypeKind, ValueType, wider};
+pub use types::{ValueType, wider};
