@@ -1,15 +1,17 @@
 // Expressions.
 
-use crate::identifier::Identifier;
+use crate::Identifier;
 use rtio_types::Name;
 
-/// The operators that take two integers and give one.
-#[derive(Clone, Copy, PartialEq, Eq, Debug, Drop)]
+/// The operators that take two integers and give one. Sums and products wrap at the width of their type.
+#[derive(Clone, Copy, Debug, PartialEq, Eq)]
 pub enum BinaryOperator {
     Add,
     Subtract,
     Multiply,
+    /// `//`, which rounds down.
     Divide,
+    /// `%`, what is left by `//`.
     Remainder,
     ShiftLeft,
     ShiftRight,
@@ -18,8 +20,8 @@ pub enum BinaryOperator {
     BitOr,
 }
 
-/// The operators that compare.
-#[derive(Clone, Copy, PartialEq, Eq, Debug, Drop)]
+/// The operators that compare two integers, or for `==` and `!=` also two truth values.
+#[derive(Clone, Copy, Debug, PartialEq, Eq)]
 pub enum Comparison {
     Equal,
     NotEqual,
@@ -30,21 +32,24 @@ pub enum Comparison {
 }
 
 /// The operators before an integer.
-#[derive(Clone, Copy, PartialEq, Eq, Debug, Drop)]
+#[derive(Clone, Copy, Debug, PartialEq, Eq)]
 pub enum UnaryOperator {
     Negate,
     Invert,
 }
 
-/// An expression. Parentheses are kept as Group.
+/// An expression, one variant for each alternative of the grammar. Parentheses are kept.
 #[cycle(expression)]
 #[derive(Drop)]
 pub enum Expr {
+    /// An integer by its value, below 2^63 in each text.
     Integer(u64),
     True,
     False,
     Variable(Identifier),
+    /// An element of an array: `array[index]`.
     Index(Identifier, Box<Expr>),
+    /// An expression in parentheses.
     Group(Box<Expr>),
     Unary(UnaryOperator, Box<Expr>),
     Binary(BinaryOperator, Box<Expr>, Box<Expr>),
@@ -52,11 +57,13 @@ pub enum Expr {
     Not(Box<Expr>),
     And(Box<Expr>, Box<Expr>),
     Or(Box<Expr>, Box<Expr>),
+    /// `function(arguments)`.
     Call(Identifier, Vec<Argument>),
+    /// `object.method(arguments)`.
     Method(Identifier, Identifier, Vec<Argument>),
 }
 
-/// An argument of a call.
+/// An argument of a call: a value, or the quoted name of a recording or dataset.
 #[cycle(expression)]
 #[derive(Drop)]
 pub enum Argument {

@@ -6,6 +6,8 @@ mod expression;
 mod identifier;
 mod program;
 mod statement;
+#[cfg(test)]
+mod tests;
 
 pub use counting::nodes;
 pub use expression::{Argument, BinaryOperator, Comparison, Expr, UnaryOperator};

@@ -1,7 +1,6 @@
 // Statements.
 
-use crate::expression::Expr;
-use crate::identifier::Identifier;
+use crate::{Expr, Identifier};
 use rtio_types::Name;
 
 /// The statements of a block, in order.
@@ -11,7 +10,7 @@ pub struct Block {
     pub statements: Vec<Stmt>,
 }
 
-/// A statement with the line of its first token.
+/// A statement with the line of its first token, from 1.
 #[cycle(statement)]
 #[derive(Drop)]
 pub struct Stmt {
@@ -19,21 +18,21 @@ pub struct Stmt {
     pub kind: StmtKind,
 }
 
-/// What is assigned to.
+/// What is assigned to: a name, or an element of an array with its index.
 #[derive(Drop)]
 pub enum Target {
     Variable(Identifier),
     Element(Identifier, Expr),
 }
 
-/// The operator of an augmented assignment.
-#[derive(Clone, Copy, PartialEq, Eq, Debug, Drop)]
+/// The operator of an augmented assignment, `+=` or `-=`.
+#[derive(Clone, Copy, Debug, PartialEq, Eq)]
 pub enum Augment {
     Add,
     Subtract,
 }
 
-/// The forms of a statement.
+/// The forms of a statement, one for each alternative of the grammar.
 #[cycle(statement)]
 #[derive(Drop)]
 pub enum StmtKind {
@@ -41,17 +40,26 @@ pub enum StmtKind {
     Break,
     Continue,
     Return(Option<Expr>),
+    /// An expression that stands alone.
     Evaluate(Expr),
     Assign(Target, Expr),
     Augmented(Target, Augment, Expr),
+    /// `name = [value] * length`.
     ArrayRepeat(Identifier, Expr, u64),
+    /// `name = [value, value, ..]`.
     ArrayList(Identifier, Vec<Expr>),
+    /// The first branch, the `elif` branches, and the `else` if there is one.
     If(Expr, Block, Vec<Elif>, Option<Block>),
     While(Expr, Block),
+    /// `for name in range(to)`.
     ForTo(Identifier, Expr, Block),
+    /// `for name in range(from, to)`.
     ForFromTo(Identifier, Expr, Expr, Block),
+    /// `with parallel`: each statement starts at the cursor that the block started with.
     Parallel(Block),
+    /// `with sequential`: one statement after another.
     Sequential(Block),
+    /// `with core_dma.record(name)`: the outputs are kept and not put out.
     Record(Name, Block),
     Try(Block, Vec<Handler>),
 }
@@ -65,7 +73,7 @@ pub struct Elif {
     pub body: Block,
 }
 
-/// An `except` branch with its line.
+/// An `except` branch with its line and the name of its exception.
 #[cycle(statement)]
 #[derive(Drop)]
 pub struct Handler {
