@@ -1,11 +1,11 @@
 -- The nodes of the further branches of an `if`.
-use Rattle.std.proofs.Common.{rules, ◌≡◌, ◌+◌, List, [], ◌∷◌, Some, None, arith, ap}
+use Rattle.std.proofs.Common.{rules, ◌≡◌, ◌+◌, List, [], ◌∷◌, Some, None, arith}
 use Rattle.kern_syntax.specs.declared.statement.Elif.{Elif}
 use Rattle.kern_syntax.specs.declared.statement.Block.{Block}
 use Rattle.kern_syntax.specs.declared.statement.StmtKind.TheFolds.{the_lemmas}
-use Rattle.kern_syntax.specs.Tree.{Otherwise, no_else, elif_then}
+use Rattle.kern_syntax.specs.Tree.{Otherwise, no_else}
 use Rattle.kern_syntax.specs.Nodes.{block_nodes, otherwise_nodes}
-use Rattle.kern_syntax.specs.TreeOf.{expression_of, block_of, elif_of, branches_of}
+use Rattle.kern_syntax.specs.TreeOf.{block_of, elif_of, branches_of}
 
 -- a branch before others adds its own nodes
 otherwise_nodes_elif : (branch : Elif) (rest : Otherwise) → otherwise_nodes (elif_of branch rest) ≡ otherwise_nodes (elif_of branch no_else) + otherwise_nodes rest

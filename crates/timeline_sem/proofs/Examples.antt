@@ -1,16 +1,21 @@
 -- Small kernels, whose meanings are computed.
-use Rattle.std.proofs.Common.{◌≡◌, ℕ, List, [], ◌∷◌, None, refl}
-use Rattle.std.specs.Prelude.{pos, negsuc, codes}
+use Rattle.std.proofs.Common.{◌≡◌, ℕ, List, [], ◌∷◌, Some, None, refl}
+use Rattle.std.specs.Prelude.{ℤ, pos, negsuc, codes}
 use Rattle.std.specs.Int.{int_wrap}
 use Rattle.rtio_types.specs.declared.event.Event.{Event}
-use Rattle.rtio_types.specs.declared.outcome.Exc.TheVariants.{RTIOUnderflow, StackOverflow}
+use Rattle.rtio_types.specs.declared.outcome.Exc.TheVariants.{RTIOUnderflow, DMAError, ZeroDivisionError, IndexError, StackOverflow}
 use Rattle.rtio_types.specs.declared.request.Request.{Request}
 use Rattle.rtio_types.specs.declared.request.Request.TheVariants as Q
 use Rattle.rtio_types.specs.declared.request.Reply.{Reply}
 use Rattle.rtio_types.specs.declared.request.Reply.TheVariants as R
-use Rattle.rtio_types.specs.declared.request.Value.TheVariants.{Int}
-use Rattle.kern_syntax.specs.declared.expression.BinaryOperator.TheVariants.{Add as Plus}
-use Rattle.kern_syntax.specs.Tree.{for_range, Bytes, integer, true_literal, variable, binary, call, method, no_more, value_then, text_then, Statement, pass, evaluate, assign, while_do, parallel, sequential, record_as, try_do, Block, done, line_then, no_handler, except_then, ProgramTree}
+use Rattle.rtio_types.specs.declared.request.Value.TheVariants.{Int, List as Items}
+use Rattle.kern_syntax.specs.declared.expression.BinaryOperator.TheVariants.{Add as Plus, Divide, Remainder, ShiftLeft}
+use Rattle.kern_syntax.specs.declared.expression.UnaryOperator.TheVariants.{Negate as Minus}
+use Rattle.kern_syntax.specs.declared.expression.Comparison.TheVariants.{Less}
+use Rattle.kern_syntax.specs.declared.statement.Augment.TheVariants as A
+use Rattle.kern_syntax.specs.declared.program.DeclaredType.TheVariants as D
+use Rattle.kern_syntax.specs.Tree as T
+use Rattle.kern_syntax.specs.Tree.{for_range, Bytes, Expression, integer, true_literal, variable, unary, binary, compare, disjunction, call, method, no_more, value_then, text_then, Statement, pass, evaluate, assign, assign_element, augment_element, assign_repeated, assign_list, if_then, no_else, while_do, parallel, sequential, record_as, try_do, Block, done, line_then, no_handler, except_then, ProgramTree}
 use Rattle.timeline_sem.specs.declared.meant.MeantOutcome.TheVariants as M
 use Rattle.timeline_sem.specs.Programs.{Meaning, meaning}
 
@@ -201,3 +206,102 @@ edges =
 edges_run : run edges 9 (R.Stamp (pos 8) ∷ R.Stamp (pos 9) ∷ R.NoEdge ∷ R.Done ∷ []) ≡ record { requests = Q.Edge 24 (pos 50) ∷ Q.Edge 24 (pos 50) ∷ Q.Edge 24 (pos 50) ∷ Q.Data (codes "n") (Int (pos 2)) ∷ []; cursor = pos 0; units = 5; outcome = M.Returned }
 unfolding int_wrap edges
 edges_run = refl
+
+abbrev method_one : Bytes → Bytes → Expression → Statement
+method_one object name e = evaluate (method object name (value_then e no_more))
+
+-- the dataset `d` is set to a value
+abbrev set_d : Expression → Statement
+set_d e = evaluate (call (codes "set_dataset") (text_then (codes "d") (value_then e no_more)))
+
+abbrev set_d_request : ℤ → Request
+set_d_request n = Q.Data (codes "d") (Int n)
+
+-- a raw output: its address is taken modulo 256, and its data as 32 bits
+written : ProgramTree
+written =
+    main_of
+    (evaluate (method (codes "raw7") (codes "write") (value_then (integer 258) (value_then (unary Minus (integer 1)) no_more)))
+    ∷ [])
+
+written_run : run written 9 (R.Done ∷ []) ≡ record { requests = Q.Out (record { channel = 23; address = 2; value = 4294967295; stamp = pos 0 }) ∷ []; cursor = pos 0; units = 8; outcome = M.Returned }
+unfolding int_wrap written
+written_run = refl
+
+-- a gate sets the sensitivity, moves the cursor on, clears it and gives the cursor
+gated : ProgramTree
+gated =
+    main_of
+    (call_one (codes "at_mu") 100 ∷ set_d (method (codes "in1") (codes "gate_falling_mu") (value_then (integer 40) no_more)) ∷ [])
+
+gated_run : run gated 9 (R.Done ∷ R.Done ∷ R.Done ∷ []) ≡ record { requests = Q.Out (record { channel = 25; address = 2; value = 2; stamp = pos 100 }) ∷ Q.Out (record { channel = 25; address = 2; value = 0; stamp = pos 140 }) ∷ set_d_request (pos 140) ∷ []; cursor = pos 140; units = 6; outcome = M.Returned }
+unfolding int_wrap gated
+gated_run = refl
+
+-- a reset moves the cursor to its lead, also back
+reset_back : ProgramTree
+reset_back = main_of (call_one (codes "at_mu") 900000 ∷ do_method (codes "core") (codes "reset") ∷ [])
+
+reset_back_run : run reset_back 9 (R.Time (pos 8) ∷ []) ≡ record { requests = Q.Reset ∷ []; cursor = pos 125008; units = 8; outcome = M.Returned }
+unfolding int_wrap reset_back
+reset_back_run = refl
+
+-- a recording that there is no room for raises, and the cursor is back
+unsaved : ProgramTree
+unsaved =
+    main_of (call_one (codes "at_mu") 700 ∷ record_as (codes "p") (lines (call_one (codes "delay_mu") 5 ∷ [])) ∷ [])
+
+unsaved_run : run unsaved 9 (R.Full ∷ []) ≡ record { requests = Q.Save (codes "p") (record { events = []; length = pos 5 }) ∷ []; cursor = pos 700; units = 8; outcome = M.Raised DMAError }
+unfolding int_wrap unsaved
+unsaved_run = refl
+
+-- an index outside its array raises; the value is evaluated before the index
+outside : ProgramTree
+outside =
+    main_of
+    (assign_repeated (codes "a") (integer 7) 2
+    ∷ assign_element (codes "a") (method (codes "core") (codes "get_rtio_counter_mu") no_more) (call (codes "now_mu") no_more)
+    ∷ [])
+
+outside_run : run outside 9 (R.Time (pos 2) ∷ []) ≡ record { requests = Q.Counter ∷ []; cursor = pos 0; units = 8; outcome = M.Raised IndexError }
+unfolding int_wrap outside
+outside_run = refl
+
+-- an element is read, raised and written back
+raised_element : ProgramTree
+raised_element =
+    main_of
+    (assign_list (codes "a") (integer 3 ∷ integer 4 ∷ [])
+    ∷ augment_element (codes "a") (integer 1) A.Subtract (integer 6)
+    ∷ set_d (variable (codes "a"))
+    ∷ [])
+
+raised_element_run : run raised_element 9 (R.Done ∷ []) ≡ record { requests = Q.Data (codes "d") (Items (pos 3 ∷ negsuc 1 ∷ [])) ∷ []; cursor = pos 0; units = 8; outcome = M.Returned }
+unfolding int_wrap raised_element
+raised_element_run = refl
+
+-- division rounds down, a shift's amount is taken modulo the width, and `or` leaves out what it needn't ask
+computed : ProgramTree
+computed =
+    main_of
+    (set_d (binary Divide (unary Minus (integer 7)) (integer 2))
+    ∷ set_d (binary Remainder (integer 7) (unary Minus (integer 2)))
+    ∷ set_d (binary ShiftLeft (integer 3) (unary Minus (integer 1)))
+    ∷ if_then (disjunction true_literal (compare Less (method (codes "in0") (codes "count") (value_then (integer 8) no_more)) (integer 1))) (lines (pass ∷ [])) no_else
+    ∷ set_d (binary Divide (integer 1) (integer 0))
+    ∷ [])
+
+computed_run : run computed 9 (R.Done ∷ R.Done ∷ R.Done ∷ []) ≡ record { requests = set_d_request (negsuc 3) ∷ set_d_request (negsuc 0) ∷ set_d_request (negsuc 2147483647) ∷ []; cursor = pos 0; units = 6; outcome = M.Raised ZeroDivisionError }
+unfolding int_wrap computed
+computed_run = refl
+
+-- a function gives the value of its `return`, and 0 without one; its cursor stays
+called : ProgramTree
+called =
+    record { line = 1; name = codes "twice"; parameters = record { name = codes "n"; declared = D.Int32 } ∷ []; result = Some D.Int32; body = lines (call_one (codes "delay_mu") 8 ∷ T.return (Some (binary Plus (variable (codes "n")) (variable (codes "n")))) ∷ call_one (codes "delay_mu") 1 ∷ []) }
+    ∷ record { line = 1; name = codes "main"; parameters = []; result = None; body = lines (set_d (call (codes "twice") (value_then (integer 21) no_more)) ∷ []) }
+    ∷ []
+
+called_run : meaning called 1 [] (pos 0) 9 (R.Done ∷ []) ≡ record { requests = set_d_request (pos 42) ∷ []; cursor = pos 8; units = 7; outcome = M.Returned }
+unfolding int_wrap called
+called_run = refl

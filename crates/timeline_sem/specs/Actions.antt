@@ -88,7 +88,7 @@ ask request s =
 abbrev pub request : Request → Action Reply
 request q = take_unit >> ask q
 
--- reads and sets the cursor
+-- reads the cursor
 abbrev pub cursor_now : Action ℤ
 cursor_now s = normal s.cursor s
 

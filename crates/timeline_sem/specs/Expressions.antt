@@ -1,10 +1,12 @@
 -- The meaning of expressions.
-use Rattle.std.specs.Prelude.{ℕ, zero, suc, List, [], ◌∷◌, length, ℤ, pos, negsuc, ◌+ℤ◌, Bool, true, false, not, if◌then◌else◌, slice_get, slice_set, Option, Some, None, option_map, bytes_eq, ⊤}
+use Rattle.std.specs.Prelude.{ℕ, zero, suc, List, [], ◌∷◌, length, ℤ, pos, negsuc, ◌+ℤ◌, Bool, true, false, not, if◌then◌else◌, slice_get, slice_set, unsigned_abs, Option, Some, None, option_map, bytes_eq, ⊤}
 use Rattle.std.specs.Int.{w32, int_wrap}
+use Rattle.rtio_types.specs.declared.outcome.Exc.{Exc}
 use Rattle.rtio_types.specs.declared.outcome.Exc.TheVariants.{IndexError, ZeroDivisionError}
 use Rattle.rtio_types.specs.declared.request.Request.TheVariants as Q
 use Rattle.rtio_types.specs.declared.request.Value.{Value}
 use Rattle.rtio_types.specs.declared.request.Value.TheVariants as W
+use Rattle.kern_syntax.specs.declared.expression.BinaryOperator.{BinaryOperator}
 use Rattle.kern_syntax.specs.Tree.{Bytes, Expression, integer, true_literal, false_literal, variable, element, group, unary, binary, compare, negation, conjunction, disjunction, call, method, Arguments, no_more, value_then, text_then}
 use Rattle.kern_types.specs.declared.types.ValueType.{ValueType}
 use Rattle.kern_types.specs.declared.types.ValueType.TheVariants as V
@@ -35,7 +37,7 @@ abbrev pub list_in_value : Value → List ℤ
 list_in_value (W.Int n) = []
 list_in_value (W.List items) = items
 
--- reads and writes a name
+-- reads a name
 abbrev pub read : Bytes → Action Value
 read x s = normal (value_of s.values x) s
 
@@ -44,7 +46,7 @@ abbrev pub write : Bytes → Value → Action ⊤
 write x new s = normal tt (record s { values = with_value s.values x new })
 
 -- gives a value, or raises where there is none
-abbrev pub or_raise : {A : Type 0} → Option A → Rattle.rtio_types.specs.declared.outcome.Exc.Exc → Action A
+abbrev pub or_raise : {A : Type 0} → Option A → Exc → Action A
 or_raise (Some a) x = give a
 or_raise None x = stop (raised x)
 
@@ -55,7 +57,7 @@ place_in items (negsuc i) = None
 
 -- the list with one item anew, if the index is one of its places
 abbrev pub with_item : List ℤ → ℤ → ℤ → Option (List ℤ)
-with_item items i new = option_map (λ old. slice_set items (Rattle.std.specs.Prelude.unsigned_abs i) new) (place_in items i)
+with_item items i new = option_map (λ old. slice_set items (unsigned_abs i) new) (place_in items i)
 
 -- an element of an array
 abbrev pub read_element : Bytes → ℤ → Action ℤ
@@ -71,7 +73,7 @@ write_element x i new = do
   write x (W.List items)
 
 -- an operator on two values: its exact result wraps at the width of its type
-abbrev pub operate : Rattle.kern_syntax.specs.declared.expression.BinaryOperator.BinaryOperator → ValueType → ℤ → ℤ → Action ℤ
+abbrev pub operate : BinaryOperator → ValueType → ℤ → ℤ → Action ℤ
 operate op t a b = do
   exact ← or_raise (exact_result op (bits_of t) a b) ZeroDivisionError
   give (int_wrap (width_of t) exact)

@@ -103,12 +103,12 @@ play q = do
 abbrev pub with_lead : ℤ → ℤ
 with_lead reading = later reading (pos 125000)
 
--- the first of a call's numbers, and the second
+-- the first of a call's numbers; a typed call has it
 abbrev pub first_of_list : List ℤ → ℤ
 first_of_list [] = pos 0
 first_of_list (a ∷ rest) = a
 
--- the second of a call's numbers
+-- the second of a call's numbers; a typed call that takes two has it
 abbrev pub second_of_list : List ℤ → ℤ
 second_of_list [] = pos 0
 second_of_list (a ∷ rest) = first_of_list rest
