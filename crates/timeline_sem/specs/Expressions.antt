@@ -1,5 +1,5 @@
 -- The meaning of expressions.
-use Rattle.std.specs.Prelude.{ℕ, zero, suc, List, [], ◌∷◌, length, ℤ, pos, negsuc, ◌+ℤ◌, Bool, true, false, not, if◌then◌else◌, slice_get, slice_set, unsigned_abs, Option, Some, None, option_map, bytes_eq, ⊤}
+use Rattle.std.specs.Prelude.{List, [], ◌∷◌, length, ℤ, pos, negsuc, Bool, true, false, not, if◌then◌else◌, slice_get, slice_set, unsigned_abs, Option, Some, None, option_map, bytes_eq, ⊤}
 use Rattle.std.specs.Int.{w32, int_wrap}
 use Rattle.rtio_types.specs.declared.outcome.Exc.{Exc}
 use Rattle.rtio_types.specs.declared.outcome.Exc.TheVariants.{IndexError, ZeroDivisionError}
