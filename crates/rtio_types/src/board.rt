@@ -3,7 +3,7 @@
 ghost use Rattle.std.specs.Prelude.{◌≡◌};
 ghost use Rattle.rtio_types.specs.Board.{kind_of_channel, channel_of_name};
 
-/// What a channel of the board does.
+/// What a channel of the board does. The board, its channels and their names are this project's own.
 #[derive(Clone, Copy, Debug, PartialEq, Eq)]
 pub enum ChannelKind {
     /// An output; a later one of the same stamp replaces it.

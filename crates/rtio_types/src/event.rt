@@ -1,18 +1,25 @@
 // What happens on a channel of the board, and when.
 
-/// An output: the channel and its address, the data, and the moment in machine units (mu).
+/// An output on a channel of the board.
 #[derive(Clone, Copy, Debug, PartialEq, Eq)]
 pub struct Event {
+    /// The channel, 0 to 31 on the board.
     pub channel: u8,
+    /// The address within the channel; which there are goes by the channel's kind.
     pub address: u8,
+    /// The data that is put out.
     pub value: u32,
+    /// The moment on the timeline, in machine units (mu).
     pub stamp: i64,
 }
 
-/// A change of an input's level at a moment in machine units (mu).
+/// A change of an input's level.
 #[derive(Clone, Copy, Debug, PartialEq, Eq)]
 pub struct Edge {
+    /// The input's channel, 24 to 31 on the board.
     pub channel: u8,
+    /// The moment of the change, in machine units (mu).
     pub stamp: i64,
+    /// Whether the level rises; else it falls.
     pub rising: bool,
 }

@@ -85,11 +85,12 @@ impl EdgeList {
     }
 }
 
-/// The outputs of a recorded block in order, with stamps from the block's start, and the block's length, both in
-/// machine units (mu).
+/// What a recorded block put out, to be played back later, as by the ARTIQ manual's DMA.
 #[derive(Debug, Drop)]
 pub struct Recording {
+    /// The outputs in the order of the block, with stamps in mu from its start.
     pub events: Vec<Event>,
+    /// How far the block moved the cursor, in mu.
     pub length: i64,
 }
 

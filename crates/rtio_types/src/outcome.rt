@@ -1,6 +1,7 @@
 // How the run of a kernel ends.
 
-/// The exceptions that a kernel can meet. The first three have their names and causes from the ARTIQ manual.
+/// The exceptions that a kernel can meet: the first three are the ARTIQ manual's, the next two Python's, and the last
+/// is this project's own.
 #[derive(Clone, Copy, Debug, PartialEq, Eq)]
 pub enum Exc {
     /// An output's cycle wasn't above the counter any more.

@@ -9,11 +9,13 @@ use std::alloc::{AllocError, Global};
 /// The value of a dataset.
 #[derive(Debug, Drop)]
 pub enum Value {
+    /// A number.
     Int(i64),
+    /// A list of numbers.
     List(IntList),
 }
 
-/// What a kernel asks of a core.
+/// What a kernel asks of a core. Moments and readings are in machine units (mu).
 #[derive(Debug, Drop)]
 pub enum Request {
     /// Puts an output on the timeline.
@@ -70,8 +72,11 @@ pub enum Reply {
 /// A request that a core may be unable to answer at once.
 #[derive(Clone, Copy, Debug, PartialEq, Eq)]
 pub enum Waiting {
+    /// An output that no lane has room for yet.
     Out(Event),
+    /// A wait until the counter reads at least `until` mu.
     Wait { until: i64 },
+    /// An edge of an input with a stamp below `up_to` mu, which may still come.
     Edge { channel: u8, up_to: i64 },
 }
 
