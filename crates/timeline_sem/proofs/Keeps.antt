@@ -40,7 +40,7 @@ module _ (R : State → State → Type 0) (law : IsKept R) where
   pub record Keeps {A : Type 0} (action : Action A) : Type 0 where
     pub from : (s : State) → R s (final (action s))
 
-  keeps_go_on : {A B : Type 0} (s : State) (c : Completion A) (f : A → Action B) → R s (final c) → ((a : A) → Keeps (f a)) → R s (final (go_on c f))
+  pub keeps_go_on : {A B : Type 0} (s : State) (c : Completion A) (f : A → Action B) → R s (final c) → ((a : A) → Keeps (f a)) → R s (final (go_on c f))
   keeps_go_on s (normal a s') f r k = law.then' r ((k a).from s')
   keeps_go_on s (early reason s') f r k = r
 
@@ -95,7 +95,7 @@ module _ (R : State → State → Type 0) (law : IsKept R) where
   pub keeps_delay : (d : ℤ) → Keeps (delay d)
   keeps_delay d = keeps_bind keeps_cursor_now (λ t. keeps_set_cursor _)
 
-  keeps_append : (event : Event) → Keeps (append_event event)
+  pub keeps_append : (event : Event) → Keeps (append_event event)
   keeps_append event = record { from = λ s. law.collected s _ }
 
   keeps_submit : (c : Option (List Event)) (event : Event) → Keeps (submit_or_collect c event)
@@ -143,7 +143,7 @@ module _ (R : State → State → Type 0) (law : IsKept R) where
   keeps_pulse channel d =
       keeps_then (keeps_output channel 0 (pos 1)) (keeps_then (keeps_delay d) (keeps_output channel 0 (pos 0)))
 
-  keeps_count : (q : Request) → Keeps (count_all_edges q)
+  pub keeps_count : (q : Request) → Keeps (count_all_edges q)
   keeps_count q = record { from = λ s. (keeps_count_edges s.units q (pos 0)).from s }
 
   pub keeps_perform : (op : Operation) (numbers : List ℤ) (text : Bytes) → Keeps (perform op numbers text)

@@ -28,7 +28,7 @@ module _ (R : State → State → Type 0) (law : IsKept R) where
   keeps_either true first second k l = k
   keeps_either false first second k l = l
 
-  keeps_after_turn : (s : State) (c : Completion ⊤) (again : Action ⊤) → R s (final c) → Keeps R law again → R s (final (after_turn c again))
+  pub keeps_after_turn : (s : State) (c : Completion ⊤) (again : Action ⊤) → R s (final c) → Keeps R law again → R s (final (after_turn c again))
   keeps_after_turn s (normal a s') again r k = law.then' r (k.from s')
   keeps_after_turn s (early continue s') again r k = law.then' r (k.from s')
   keeps_after_turn s (early break s') again r k = r
@@ -37,7 +37,7 @@ module _ (R : State → State → Type 0) (law : IsKept R) where
   keeps_after_turn s (early budget s') again r k = r
   keeps_after_turn s (early unanswered s') again r k = r
 
-  keeps_turn : (body again : Action ⊤) → Keeps R law body → Keeps R law again → Keeps R law (turn body again)
+  pub keeps_turn : (body again : Action ⊤) → Keeps R law body → Keeps R law again → Keeps R law (turn body again)
   keeps_turn body again k l =
       keeps_then R law (keeps_take_unit R law) (record { from = λ s. keeps_after_turn s (body s) again (k.from s) l })
 
@@ -47,7 +47,7 @@ module _ (R : State → State → Type 0) (law : IsKept R) where
   keeps_while_turns (suc n) condition body k l =
       keeps_bind R law k (λ holds. keeps_when (is_true holds) (turn body (while_turns n condition body)) (keeps_turn body (while_turns n condition body) l (keeps_while_turns n condition body k l)))
 
-  keeps_while : (condition : Action ℤ) (body : Action ⊤) → Keeps R law condition → Keeps R law body → Keeps R law (while_loop condition body)
+  pub keeps_while : (condition : Action ℤ) (body : Action ⊤) → Keeps R law condition → Keeps R law body → Keeps R law (while_loop condition body)
   keeps_while condition body k l =
       record { from = λ s. (keeps_while_turns s.units condition body k l).from s }
 
@@ -59,21 +59,21 @@ module _ (R : State → State → Type 0) (law : IsKept R) where
   left : (before s : State) → R s (leave_recording before s)
   left before s = law.then' (law.cursor s before.cursor) (law.collected _ before.collected)
 
-  keeps_save_after : (s : State) (q : Request) (before : State) (c : Completion ⊤) → R s (final c) → R s (final (save_after q before c))
+  pub keeps_save_after : (s : State) (q : Request) (before : State) (c : Completion ⊤) → R s (final c) → R s (final (save_after q before c))
   keeps_save_after s q before (normal a s') r =
       law.then' r (law.then' (left before s') ((keeps_bind R law (keeps_ask R law q) (λ reply. keeps_skip R law)).from (leave_recording before s')))
   keeps_save_after s q before (early reason s') r = law.then' r (left before s')
 
-  keeps_end_recording : (s : State) (name : Bytes) (before : State) (c : Completion ⊤) → R s (final c) → R s (final (end_recording name before c))
+  pub keeps_end_recording : (s : State) (name : Bytes) (before : State) (c : Completion ⊤) → R s (final c) → R s (final (end_recording name before c))
   keeps_end_recording s name before (normal a s') r =
       keeps_save_after s (save_request name s') before (take_unit s') (law.then' r ((keeps_take_unit R law).from s'))
   keeps_end_recording s name before (early reason s') r = law.then' r (left before s')
 
-  keeps_recorded : (name : Bytes) (body : Action ⊤) → Keeps R law body → Keeps R law (recorded name body)
+  pub keeps_recorded : (name : Bytes) (body : Action ⊤) → Keeps R law body → Keeps R law (recorded name body)
   keeps_recorded name body k =
       record { from = λ s. keeps_end_recording s name s (body (record s { cursor = pos 0; collected = Some [] })) (law.then' (law.then' (law.cursor s (pos 0)) (law.collected _ (Some []))) (k.from _)) }
 
-  keeps_after_try : (s : State) (c : Completion ⊤) (handle : Exc → Action ⊤) → R s (final c) → ((x : Exc) → Keeps R law (handle x)) → R s (final (after_try c handle))
+  pub keeps_after_try : (s : State) (c : Completion ⊤) (handle : Exc → Action ⊤) → R s (final c) → ((x : Exc) → Keeps R law (handle x)) → R s (final (after_try c handle))
   keeps_after_try s (normal a s') handle r k = r
   keeps_after_try s (early (raised x) s') handle r k = law.then' r ((k x).from s')
   keeps_after_try s (early continue s') handle r k = r
@@ -82,7 +82,7 @@ module _ (R : State → State → Type 0) (law : IsKept R) where
   keeps_after_try s (early budget s') handle r k = r
   keeps_after_try s (early unanswered s') handle r k = r
 
-  keeps_attempt : (body : Action ⊤) (handle : Exc → Action ⊤) → Keeps R law body → ((x : Exc) → Keeps R law (handle x)) → Keeps R law (attempt body handle)
+  pub keeps_attempt : (body : Action ⊤) (handle : Exc → Action ⊤) → Keeps R law body → ((x : Exc) → Keeps R law (handle x)) → Keeps R law (attempt body handle)
   keeps_attempt body handle k l =
       record { from = λ s. keeps_after_try s (body s) handle (k.from s) l }
 
@@ -151,7 +151,7 @@ module _ (R : State → State → Type 0) (law : IsKept R) where
       keeps_handler (except_then line name body rest) x =
           keeps_if (bytes_eq name (name_of_exception x)) (block scope callee body) (handler scope callee rest x) (keeps_block body) (keeps_handler rest x)
 
-  keeps_left : (s : State) (values : List (Bytes × Value)) (c : Completion ⊤) → R s (final c) → R s (final (leave_function values c))
+  pub keeps_left : (s : State) (values : List (Bytes × Value)) (c : Completion ⊤) → R s (final c) → R s (final (leave_function values c))
   keeps_left s values (normal a s') r = law.then' r (law.values s' values)
   keeps_left s values (early (return v) s') r = law.then' r (law.values s' values)
   keeps_left s values (early break s') r = law.then' r (law.values s' values)

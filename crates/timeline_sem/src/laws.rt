@@ -1,7 +1,7 @@
 // What holds of the meaning of every kernel.
 
 ghost use Rattle.kern_syntax.specs.Tree.{ProgramTree};
-ghost use Rattle.timeline_sem.specs.Laws.{UnitsNeverRise, RequestsAreOnlyAdded};
+ghost use Rattle.timeline_sem.specs.Laws.{UnitsNeverRise, RequestsAreOnlyAdded, RepliesExtend};
 
 /// No function ends with more units than it began with, whatever it is answered.
 pub fn units_never_rise()
@@ -11,4 +11,10 @@ pub fn units_never_rise()
 /// A call, however it ends, keeps the requests that were asked before it, and adds its own behind them.
 pub fn requests_are_only_added()
     ensures { (program : ProgramTree) → RequestsAreOnlyAdded program }
+{}
+
+/// With more replies the meaning of a function goes on from what it is with fewer: where no reply was lacking it is the
+/// same, and else the requests asked so far are its first ones.
+pub fn replies_extend_meanings()
+    ensures { (program : ProgramTree) → RepliesExtend program }
 {}

@@ -4,5 +4,5 @@
 mod laws;
 mod meant;
 
-pub use laws::{requests_are_only_added, units_never_rise};
+pub use laws::{replies_extend_meanings, requests_are_only_added, units_never_rise};
 pub use meant::MeantOutcome;
