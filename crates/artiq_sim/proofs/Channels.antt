@@ -1,0 +1,63 @@
+-- Facts of the sixteen channels that replace their outputs.
+use Rattle.std.proofs.Common.{◌≡◌, ℕ, ◌<◌, List, [], ◌∷◌, refl, sym, arith, IsTrue, Bool, true, false, Some, cond}
+use Rattle.std.specs.Prelude.{suc, zero, codes, bytes_eq}
+use Rattle.std.specs.List.{find, range_with_len}
+use Rattle.std.proofs.lemmas.Slice.Eq.{bytes_eq-Decides}
+use Rattle.rtio_types.specs.Board.{name_of_channel, channel_of_name, digits_of}
+use Rattle.kern_types.specs.Calls.{on, off, method_named}
+use Rattle.artiq_sim.specs.Straight.{lacks}
+
+-- a fact of each of them
+abbrev pub AtEach : (ℕ → Type 0) → Type 0
+AtEach P = P 0 × P 1 × P 2 × P 3 × P 4 × P 5 × P 6 × P 7 × P 8 × P 9 × P 10 × P 11 × P 12 × P 13 × P 14 × P 15
+
+pub at_channel : (P : ℕ → Type 0) → AtEach P → (c : ℕ) → c < 16 → P c
+at_channel P each zero below = each.0
+at_channel P each (suc zero) below = each.1
+at_channel P each (suc (suc zero)) below = each.2
+at_channel P each (suc (suc (suc zero))) below = each.3
+at_channel P each (suc (suc (suc (suc zero)))) below = each.4
+at_channel P each (suc (suc (suc (suc (suc zero))))) below = each.5
+at_channel P each (suc (suc (suc (suc (suc (suc zero)))))) below = each.6
+at_channel P each (suc (suc (suc (suc (suc (suc (suc zero))))))) below = each.7
+at_channel P each (suc (suc (suc (suc (suc (suc (suc (suc zero)))))))) below = each.8
+at_channel P each (suc (suc (suc (suc (suc (suc (suc (suc (suc zero))))))))) below = each.9
+at_channel P each (suc (suc (suc (suc (suc (suc (suc (suc (suc (suc zero)))))))))) below = each.10
+at_channel P each (suc (suc (suc (suc (suc (suc (suc (suc (suc (suc (suc zero))))))))))) below = each.11
+at_channel P each (suc (suc (suc (suc (suc (suc (suc (suc (suc (suc (suc (suc zero)))))))))))) below = each.12
+at_channel P each (suc (suc (suc (suc (suc (suc (suc (suc (suc (suc (suc (suc (suc zero))))))))))))) below = each.13
+at_channel P each (suc (suc (suc (suc (suc (suc (suc (suc (suc (suc (suc (suc (suc (suc zero)))))))))))))) below = each.14
+at_channel P each (suc (suc (suc (suc (suc (suc (suc (suc (suc (suc (suc (suc (suc (suc (suc zero))))))))))))))) below = each.15
+at_channel P each (suc (suc (suc (suc (suc (suc (suc (suc (suc (suc (suc (suc (suc (suc (suc (suc c)))))))))))))))) below = absurd (omega (arith, below))
+
+-- no dot stands in a name
+pub name_lacks_dot : (c : ℕ) → c < 16 → IsTrue (lacks 46 (name_of_channel c))
+name_lacks_dot = at_channel (λ c. IsTrue (lacks 46 (name_of_channel c))) (refl, refl, refl, refl, refl, refl, refl, refl, refl, refl, refl, refl, refl, refl, refl, refl)
+
+-- a name begins with a t
+pub name_begins : (c : ℕ) → c < 16 → name_of_channel c ≡ 116 ∷ (116 ∷ (108 ∷ digits_of c))
+name_begins = at_channel (λ c. name_of_channel c ≡ 116 ∷ (116 ∷ (108 ∷ digits_of c))) (refl, refl, refl, refl, refl, refl, refl, refl, refl, refl, refl, refl, refl, refl, refl, refl)
+
+-- a name is that of its channel
+pub channel_of_its_name : (c : ℕ) → c < 16 → channel_of_name (name_of_channel c) ≡ Some c
+channel_of_its_name = at_channel (λ c. channel_of_name (name_of_channel c) ≡ Some c) (refl, refl, refl, refl, refl, refl, refl, refl, refl, refl, refl, refl, refl, refl, refl, refl)
+
+-- its methods
+pub on_of_name : (c : ℕ) → c < 16 → method_named (name_of_channel c) (codes "on") ≡ Some (on c)
+on_of_name = at_channel (λ c. method_named (name_of_channel c) (codes "on") ≡ Some (on c)) (refl, refl, refl, refl, refl, refl, refl, refl, refl, refl, refl, refl, refl, refl, refl, refl)
+
+pub off_of_name : (c : ℕ) → c < 16 → method_named (name_of_channel c) (codes "off") ≡ Some (off c)
+off_of_name = at_channel (λ c. method_named (name_of_channel c) (codes "off") ≡ Some (off c)) (refl, refl, refl, refl, refl, refl, refl, refl, refl, refl, refl, refl, refl, refl, refl, refl)
+
+-- what is found passes
+found_passes_by : (p : ℕ → Bool) (x : ℕ) (xs : List ℕ) (c : ℕ) (b : Bool) → p x ≡ b → (find p xs ≡ Some c → IsTrue (p c)) → cond b (Some x) (find p xs) ≡ Some c → IsTrue (p c)
+found_passes_by p x xs c true e rest h = let same : x ≡ c = cc in rw (← same) e
+found_passes_by p x xs c false e rest h = rest h
+
+pub found_passes : (p : ℕ → Bool) (xs : List ℕ) (c : ℕ) → find p xs ≡ Some c → IsTrue (p c)
+found_passes p [] c h = absurd (cc)
+found_passes p (x ∷ xs) c h = found_passes_by p x xs c (p x) refl (found_passes p xs c) h
+
+-- the channel that is found has the name
+pub name_of_found : (name : List ℕ) (c : ℕ) → Some c ≡ channel_of_name name → name_of_channel c ≡ name
+name_of_found name c h = (bytes_eq-Decides (name_of_channel c) name).0 (found_passes (λ channel. bytes_eq (name_of_channel channel) name) (range_with_len 0 32) c (sym h))

@@ -1,0 +1,37 @@
+//! `artiq_sim`: runs the text of a kernel on the simulated core and reports its outputs.
+#![tactic(auto)]
+
+mod answer;
+pub mod laws;
+mod played;
+mod report;
+mod rising;
+mod run;
+mod step;
+mod straight;
+mod top;
+
+use lab_io::{StdSink, StdSource};
+use std::alloc::AllocError;
+use std::process::ExitCode;
+use std::{env, io};
+
+fn main(rt: HostRuntime) -> ExitCode {
+    let mut source = StdSource::new(rt.stdin());
+    let mut out = StdSink::new(rt.stdout());
+    let mut err = StdSink::new(rt.stderr());
+    let status = match words(&rt) {
+        Ok(words) => top::sim_top(rt.alloc(), &words, &mut source, &mut out, &mut err),
+        Err(_) => top::without_memory(&mut err),
+    };
+    ExitCode::from(status)
+}
+
+// The words behind the program's name. Words that aren't UTF-8 count as none, which isn't accepted.
+fn words(rt: &HostRuntime) -> Result<Vec<String>, AllocError> {
+    match env::args(rt) {
+        Ok(args) => args.skip(1).collect(rt.alloc()),
+        Err(error) if error.kind() == io::ErrorKind::OutOfMemory => Err(AllocError),
+        Err(_) => Ok(Vec::new(rt.alloc())),
+    }
+}

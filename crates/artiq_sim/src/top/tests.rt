@@ -1,0 +1,251 @@
+// The program on texts whose answers were worked out by hand.
+use super::*;
+use lab_io::{Page, Tape};
+use std::alloc::AllocError;
+use std::test::Fail;
+
+const USAGE: &str = "usage: artiq_sim sim or check or compile or exec or gen\n";
+
+const PAIR: &str =
+    "def main():\n    at_mu(1000)\n    ttl0.on()\n    delay_mu(500)\n    ttl0.off()\n";
+
+const PAIR_REPORT: &str = "out 1000 0 0 1\nout 1500 0 0 0\nend ok\ncursor 1500\ncounter 1496\n";
+
+// What a call of the program leaves.
+#[derive(Debug, Drop)]
+struct Left {
+    status: u8,
+    out: Vec<u8>,
+    err: Vec<u8>,
+}
+
+// Runs the program over a tape and two pages, some of whose calls fail.
+fn run_program(
+    alloc: Global,
+    words: &[&str],
+    text: Vec<u8>,
+    source_fails: &[u64],
+    out_fails: &[u64],
+    err_fails: &[u64],
+) -> Result<Left, AllocError> {
+    let mut owned = Vec::new(alloc);
+    for word in words {
+        owned.push(String::from_str(alloc, word)?)?;
+    }
+    let mut source = Tape::new(text, 4096, source_fails.to_vec(alloc)?);
+    let mut out = Page::new(alloc, 100000, 16, out_fails.to_vec(alloc)?)?;
+    let mut err = Page::new(alloc, 1000, 16, err_fails.to_vec(alloc)?)?;
+    let status = sim_top(alloc, &owned, &mut source, &mut out, &mut err);
+    Ok(Left {
+        status,
+        out: out.held().to_vec(alloc)?,
+        err: err.held().to_vec(alloc)?,
+    })
+}
+
+// What `sim` leaves of a text where no call fails.
+fn of_text(alloc: Global, text: &str) -> Result<Left, AllocError> {
+    run_program(
+        alloc,
+        &["sim"],
+        text.as_bytes().to_vec(alloc)?,
+        &[],
+        &[],
+        &[],
+    )
+}
+
+#[test]
+fn straight_texts_are_reported(rt: HostRuntime) -> Result<(), Fail> {
+    let cases = [
+        (PAIR, 0, PAIR_REPORT),
+        // An output in the cycle at which the counter stands, or before it, comes too late.
+        (
+            "def main():\n    at_mu(-8)\n    ttl0.on()\n",
+            6,
+            "end raised RTIOUnderflow\ncursor -8\ncounter 0\n",
+        ),
+        (
+            "def main():\n    at_mu(7)\n    ttl0.on()\n    at_mu(1000)\n    ttl1.on()\n",
+            6,
+            "end raised RTIOUnderflow\ncursor 7\ncounter 0\n",
+        ),
+        (
+            "def main():\n    at_mu(8)\n    ttl15.on()\n",
+            0,
+            "out 8 15 0 1\nend ok\ncursor 8\ncounter 8\n",
+        ),
+        // Numbers with zeros in front, and a negated zero.
+        (
+            "def main():\n    at_mu(000000000000000016)\n    delay_mu(-0)\n    ttl9.off()\n    delay_mu(-20)\n",
+            0,
+            "out 16 9 0 0\nend ok\ncursor -4\ncounter 16\n",
+        ),
+        // Nothing is put out.
+        (
+            "def main():\n    delay_mu(999999999999999999)\n",
+            0,
+            "end ok\ncursor 999999999999999999\ncounter 0\n",
+        ),
+        // The last stamp in the greatest cycle, and the counter at its cycle's begin.
+        (
+            "def main():\n    at_mu(1073741831)\n    ttl2.on()\n",
+            0,
+            "out 1073741831 2 0 1\nend ok\ncursor 1073741831\ncounter 1073741824\n",
+        ),
+    ];
+    for (text, status, report) in cases {
+        let left = of_text(rt.alloc(), text)?;
+        assert_eq!(rt; left.status, status, "{text}");
+        assert_eq!(rt; left.out.as_slice(), report.as_bytes(), "{text}");
+        assert_eq!(rt; left.err.len(), 0, "{text}");
+    }
+    Ok(())
+}
+
+// Ten times the greatest number is 10^19 - 10, which wraps to that less 2^64.
+#[test]
+fn the_cursor_wraps_at_64_bits(rt: HostRuntime) -> Result<(), Fail> {
+    let mut text = String::from_str(rt.alloc(), "def main():\n")?;
+    for _ in 0..10 {
+        text.push_str("    delay_mu(999999999999999999)\n")?;
+    }
+    text.push_str("    ttl0.on()\n")?;
+    let left = of_text(rt.alloc(), &text)?;
+    assert_eq!(rt; left.status, 6);
+    assert_eq!(rt;
+        left.out.as_slice(),
+        b"end raised RTIOUnderflow\ncursor -8446744073709551626\ncounter 0\n".as_slice()
+    );
+    Ok(())
+}
+
+#[test]
+fn other_texts_are_refused(rt: HostRuntime) -> Result<(), Fail> {
+    let texts = [
+        "",
+        "def main():\n",
+        "def main():\n    at_mu(1000)\n    ttl0.off()\n    ttl0.on()\n",
+        "def main():\n    at_mu(1000)\n    ttl0.on()\n    delay_mu(7)\n    ttl1.on()\n",
+        "def main():\n    at_mu(1073741832)\n    ttl0.on()\n",
+        "def main():\n    at_mu(1000)\n    ttl0.on()",
+        "def main():\n    ttl00.on()\n",
+        "def main():\n    ttl16.on()\n",
+        "def main():\n    raw0.on()\n",
+        "def main():\n    at_mu(1000000000000000000)\n",
+        "def main():\n    at_mu(--8)\n",
+        "def main():\n    at_mu()\n",
+        "def main():\n    at_mu( 8)\n",
+        "def main():\n    at_mu(8) \n",
+        "def main():\n\tat_mu(8)\n",
+        "def main():\n     at_mu(8)\n",
+        "def main():\r\n    at_mu(8)\r\n",
+        "def main():\n    at_mu(8)\n\n",
+        "# a comment\ndef main():\n    at_mu(8)\n",
+        "def main():\n    ttl0.pulse_mu(8)\n",
+    ];
+    for text in texts {
+        let left = of_text(rt.alloc(), text)?;
+        assert_eq!(rt; left.status, 1, "{text}");
+        assert_eq!(rt; left.out.len(), 0, "{text}");
+        assert_eq!(rt; left.err.as_slice(), b"form\n".as_slice(), "{text}");
+    }
+    Ok(())
+}
+
+#[test]
+fn at_most_4000_lines_are_straight(rt: HostRuntime) -> Result<(), Fail> {
+    for (lines, status) in [(4000, 0), (4001, 1)] {
+        let mut text = String::from_str(rt.alloc(), "def main():\n")?;
+        for _ in 0..lines {
+            text.push_str("    delay_mu(8)\n")?;
+        }
+        assert_eq!(rt; of_text(rt.alloc(), &text)?.status, status, "{lines} lines");
+    }
+    Ok(())
+}
+
+#[test]
+fn other_words_are_refused_unread(rt: HostRuntime) -> Result<(), Fail> {
+    let words: [&[&str]; 7] = [
+        &[],
+        &["check"],
+        &["sim", "sim"],
+        &["sim", "--cost", "8"],
+        &["--help"],
+        &["--version"],
+        &["sims"],
+    ];
+    for words in words {
+        let left = run_program(rt.alloc(), words, Vec::new(rt.alloc()), &[0], &[], &[])?;
+        assert_eq!(rt; left.status, 2, "{words:?}");
+        assert_eq!(rt; left.out.len(), 0, "{words:?}");
+        assert_eq!(rt; left.err.as_slice(), USAGE.as_bytes(), "{words:?}");
+    }
+    Ok(())
+}
+
+#[test]
+fn a_failing_read_is_a_read_fault(rt: HostRuntime) -> Result<(), Fail> {
+    let alloc = rt.alloc();
+    let left = run_program(
+        alloc,
+        &["sim"],
+        PAIR.as_bytes().to_vec(alloc)?,
+        &[0],
+        &[],
+        &[],
+    )?;
+    assert_eq!(rt; left.status, 3);
+    assert_eq!(rt; left.out.len(), 0);
+    assert_eq!(rt; left.err.as_slice(), b"read fault\n".as_slice());
+    Ok(())
+}
+
+#[test]
+fn a_failing_write_leaves_a_part(rt: HostRuntime) -> Result<(), Fail> {
+    let alloc = rt.alloc();
+    for (call, held) in [(0, 0), (1, 16), (2, 32), (3, 48)] {
+        let left = run_program(
+            alloc,
+            &["sim"],
+            PAIR.as_bytes().to_vec(alloc)?,
+            &[],
+            &[call],
+            &[],
+        )?;
+        assert_eq!(rt; left.status, 4, "call {call}");
+        assert_eq!(rt;
+            Some(left.out.as_slice()),
+            PAIR_REPORT.as_bytes().get(..held),
+            "call {call}"
+        );
+        assert_eq!(rt; left.err.len(), 0, "call {call}");
+    }
+    let refused = run_program(alloc, &["sim"], Vec::new(alloc), &[], &[], &[0])?;
+    assert_eq!(rt; refused.status, 4);
+    assert_eq!(rt; refused.err.len(), 0);
+    Ok(())
+}
+
+#[test]
+fn one_byte_more_than_a_mebibyte_is_too_long(rt: HostRuntime) -> Result<(), Fail> {
+    let alloc = rt.alloc();
+    let cases = [(1048576, 1, "form\n"), (1048577, 8, "too long\n")];
+    for (len, status, line) in cases {
+        let left = run_program(alloc, &["sim"], vec![in alloc; b'#'; len]?, &[], &[], &[])?;
+        assert_eq!(rt; left.status, status, "{len} bytes");
+        assert_eq!(rt; left.out.len(), 0, "{len} bytes");
+        assert_eq!(rt; left.err.as_slice(), line.as_bytes(), "{len} bytes");
+    }
+    Ok(())
+}
+
+#[test]
+fn want_of_memory_is_told(rt: HostRuntime) -> Result<(), Fail> {
+    let alloc = rt.alloc();
+    let mut err = Page::new(alloc, 100, 16, Vec::new(alloc))?;
+    assert_eq!(rt; without_memory(&mut err), 5);
+    assert_eq!(rt; err.held(), b"memory\n".as_slice());
+    Ok(())
+}
