@@ -1,0 +1,5 @@
+use Rattle.kern_lexer.proofs.TokenLemmas.{text-once}
+use Rattle.kern_lexer.proofs.laws.tokens_end_once.Goals as goal
+
+pub returns : goal.returns
+returns c = text-once

@@ -1,0 +1,15 @@
+use Rattle.std.proofs.Common.{◌≡◌, ◌⊎◌, List, Result, Ok, Err, inl, inr, refl}
+use Rattle.kern_lexer.specs.Answers.{HasFault, HasTokens}
+use Rattle.kern_lexer.specs.Bytes.{Bytes}
+use Rattle.kern_lexer.specs.Faults.{LexFault}
+use Rattle.kern_lexer.specs.Tokens.{tokens_of}
+use Rattle.kern_lexer.specs.declared.token.Token.{Token}
+use Rattle.kern_lexer.proofs.laws.tokens_or_fault.Goals as goal
+
+either : (text : Bytes) (read : Result (List Token) LexFault) → tokens_of text ≡ read
+    → ((tokens : List Token) × HasTokens text tokens) ⊎ ((fault : LexFault) × HasFault text fault)
+either text (Ok tokens) is = inl (tokens, is)
+either text (Err fault) is = inr (fault, is)
+
+pub returns : goal.returns
+returns c text = either text (tokens_of text) refl

@@ -1,0 +1,5 @@
+use Rattle.kern_lexer.proofs.CountLemmas.{text-count}
+use Rattle.kern_lexer.proofs.laws.two_tokens_a_byte.Goals as goal
+
+pub returns : goal.returns
+returns c = text-count

@@ -1,0 +1,17 @@
+pub mod Answers
+pub mod Brackets
+pub mod Bytes
+pub mod Faults
+pub mod Fronts
+pub mod Keys
+pub mod Lines
+pub mod Margins
+pub mod Names
+pub mod Numbers
+pub mod Signs
+pub mod Spelled
+pub mod Spellings
+pub mod Steps
+pub mod Symbols
+pub mod Tokens
+pub mod Words
