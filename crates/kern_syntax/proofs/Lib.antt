@@ -1,1 +1,4 @@
+pub mod Appended
 pub mod Branches
+pub mod Indents
+pub mod Items

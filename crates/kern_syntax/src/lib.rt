@@ -4,6 +4,7 @@
 mod counting;
 mod expression;
 mod identifier;
+mod printing;
 mod program;
 mod statement;
 #[cfg(test)]
@@ -12,5 +13,6 @@ mod tests;
 pub use counting::nodes;
 pub use expression::{Argument, BinaryOperator, Comparison, Expr, UnaryOperator};
 pub use identifier::Identifier;
+pub use printing::print;
 pub use program::{DeclaredType, Function, Parameter, ParameterList, Program};
 pub use statement::{Augment, Block, Elif, Handler, Stmt, StmtKind, Target};

@@ -8,12 +8,12 @@ use rtio_types::Name;
 use std::alloc::{AllocError, Global};
 use std::test::Fail;
 
-fn identifier(alloc: Global, text: &str) -> Result<Identifier, AllocError> {
+pub fn identifier(alloc: Global, text: &str) -> Result<Identifier, AllocError> {
     Ok(Identifier::of(Vec::from_slice(alloc, text.as_bytes())?))
 }
 
 // The program with one function of one statement.
-fn program(alloc: Global, kind: StmtKind) -> Result<Program, AllocError> {
+pub fn program(alloc: Global, kind: StmtKind) -> Result<Program, AllocError> {
     let function = Function {
         line: 1,
         name: identifier(alloc, "main")?,
@@ -25,7 +25,7 @@ fn program(alloc: Global, kind: StmtKind) -> Result<Program, AllocError> {
 }
 
 // The block of one statement.
-fn block(alloc: Global, kind: StmtKind) -> Result<Block, AllocError> {
+pub fn block(alloc: Global, kind: StmtKind) -> Result<Block, AllocError> {
     Ok(Block {
         statements: vec![in alloc; Stmt { line: 2, kind }]?,
     })
