@@ -4,7 +4,6 @@ use Rattle.std.specs.List.{join_with_byte}
 use Rattle.std.proofs.lemmas.Bool.{cond_both, ltb-true}
 use Rattle.std.proofs.lemmas.List.{length-map, length-replicate}
 use Rattle.std.proofs.lemmas.List.Splits.{join_with_byte-slice_split}
-use Rattle.kern_lexer.specs.Answers.{HasTokens}
 use Rattle.kern_lexer.specs.Brackets.{open_behind}
 use Rattle.kern_lexer.specs.Bytes.{Bytes, space}
 use Rattle.kern_lexer.specs.Faults.{◌>>=◌, placed}
@@ -165,7 +164,7 @@ lines-count left line at (first ∷ next ∷ rest) tokens e =
     omega (arith, ap length same, length-append (read.value).tokens later.value, count, others, return-shorter first, comment-shorter (without_return first), long)
 
 -- a text has at most two tokens a byte, and one more
-pub text-count : (text : Bytes) (tokens : List Token) → HasTokens text tokens
+pub text-count : (text : Bytes) (tokens : List Token) → tokens_of text ≡ Ok tokens
     → length tokens ≤ 2 * length text + 1
 unfolding tokens_of
 text-count text tokens e =

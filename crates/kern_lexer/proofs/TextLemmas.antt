@@ -4,11 +4,10 @@ use Rattle.std.specs.List.{slice_split, onto_first, position, position_or_len}
 use Rattle.std.proofs.lemmas.Bool.{ltb-true, ltb-false}
 use Rattle.std.proofs.lemmas.List.{take_rest}
 use Rattle.std.proofs.lemmas.List.Splits.{slice_split_first, length-slice_split}
-use Rattle.kern_lexer.specs.Answers.{IsEndOf}
 use Rattle.kern_lexer.specs.Bytes.{Bytes}
 use Rattle.kern_lexer.specs.Faults.{LexFault, ◌>>=◌}
 use Rattle.kern_lexer.specs.Lines.{lines_of, without_return, without_comment}
-use Rattle.kern_lexer.specs.Steps.{line_after, text_after}
+use Rattle.kern_lexer.specs.Steps.{EndsReading, line_after, text_after}
 use Rattle.kern_lexer.specs.Tokens.{Left, LineTokens, ended_line, last_line, end_tokens, tokens_from}
 use Rattle.kern_lexer.specs.declared.fault.LexEnd.{LexEnd}
 use Rattle.kern_lexer.specs.declared.fault.LexEnd.TheVariants.{Fault, Memory}
@@ -76,11 +75,11 @@ pub lines-only : (bytes : Bytes) → position (λ b. nat_eq b 10) bytes ≡ None
 lines-only bytes none = split-none (λ b. nat_eq b 10) bytes (place-none (λ b. nat_eq b 10) bytes none)
 
 -- a text has a line
-lines-some : (bytes : Bytes) → 0 < length (lines_of bytes)
+pub lines-some : (bytes : Bytes) → 0 < length (lines_of bytes)
 lines-some bytes = omega (arith, length-slice_split (λ b. nat_eq b 10) bytes)
 
 -- the tokens of a line that others follow, and of those
-tokens_from-first : (left : Left) (line at : ℕ) (first : Bytes) (lines : List Bytes) → 0 < length lines
+pub tokens_from-first : (left : Left) (line at : ℕ) (first : Bytes) (lines : List Bytes) → 0 < length lines
     → tokens_from left line at (first ∷ lines) ≡ ended_line left line at first >>= (λ found. tokens_from found.left (suc line) (suc (at + length first)) lines >>= (λ others. Ok (found.tokens ++ others)))
 tokens_from-first left line at first [] some = absurd (omega arith)
 tokens_from-first left line at first (next ∷ rest) some = refl
@@ -107,7 +106,7 @@ after-line tokens now (Ok found) next more is =
     joined (Ok others) = ap Ok (sym (append_assoc tokens found.tokens others))
 
 after-fault : (tokens : List Token) (found : Result LineTokens LexFault) (more : LineTokens → Result (List Token) LexFault) (end : LexEnd)
-    → IsEndOf end (line_after tokens found) → IsEndOf end (text_after tokens (found >>= more))
+    → EndsReading end (line_after tokens found) → EndsReading end (text_after tokens (found >>= more))
 after-fault tokens found more Memory is = tt
 after-fault tokens (Ok found) more (Fault place kind) is = absurd cc
 after-fault tokens (Err fault) more (Fault place kind) is =
@@ -133,7 +132,7 @@ text-goes_on tokens now left next line at place rest found is =
 -- a fault in a line that a line feed ends
 pub text-faults : (tokens : List Token) (left : Left) (line at place : ℕ) (rest : Bytes) (end : LexEnd)
     → position (λ b. nat_eq b 10) rest ≡ Some place
-    → IsEndOf end (line_after tokens (ended_line left line at (take place rest))) → IsEndOf end (text_after tokens (tokens_from left line at (lines_of rest)))
+    → EndsReading end (line_after tokens (ended_line left line at (take place rest))) → EndsReading end (text_after tokens (tokens_from left line at (lines_of rest)))
 text-faults tokens left line at place rest end found is =
     let more : List Bytes = lines_of (drop (place + 1) rest) in
     let lines : text_after tokens (tokens_from left line at (lines_of rest)) ≡ text_after tokens (tokens_from left line at (take place rest ∷ more)) =
@@ -156,7 +155,7 @@ text-ends tokens now all left next line at rest none is ended =
 -- a fault in the last line
 pub text-last_faults : (tokens : List Token) (left : Left) (line at : ℕ) (rest : Bytes) (end : LexEnd)
     → position (λ b. nat_eq b 10) rest ≡ None
-    → IsEndOf end (line_after tokens (last_line left line at rest)) → IsEndOf end (text_after tokens (tokens_from left line at (lines_of rest)))
+    → EndsReading end (line_after tokens (last_line left line at rest)) → EndsReading end (text_after tokens (tokens_from left line at (lines_of rest)))
 text-last_faults tokens left line at rest end none is =
     end-same end (sym (ap (λ ls. text_after tokens (tokens_from left line at ls)) (lines-only rest none)))
     (after-fault tokens (last_line left line at rest) (λ found. Ok (found.tokens ++ end_tokens found.left line (at + length rest))) end is)

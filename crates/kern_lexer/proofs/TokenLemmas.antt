@@ -7,7 +7,6 @@ use Rattle.std.proofs.lemmas.List.Elements.{All-nil, All-cons, All-append, All-m
 use Rattle.std.proofs.lemmas.List.Splits.{join_with_byte-slice_split}
 use Rattle.std.proofs.lemmas.List.Sums.{prefix_len-le-length}
 use Rattle.std.proofs.lemmas.Result.{IfOk-at_ok}
-use Rattle.kern_lexer.specs.Answers.{HasTokens}
 use Rattle.kern_lexer.specs.Brackets.{open_behind}
 use Rattle.kern_lexer.specs.Bytes.{Bytes}
 use Rattle.kern_lexer.specs.Faults.{LexFault, ◌>>=◌, placed}
@@ -263,7 +262,7 @@ lines-once text left line at (first ∷ next ∷ rest) tokens is within e =
     one_behind n = omega arith
 
 -- the tokens of a text end once
-pub text-once : (text : Bytes) (tokens : List Token) → HasTokens text tokens → EndsOnce text tokens
+pub text-once : (text : Bytes) (tokens : List Token) → tokens_of text ≡ Ok tokens → EndsOnce text tokens
 unfolding tokens_of
 text-once text tokens e =
     lines-once text (record { widths = []; brackets = [] }) 1 0 (lines_of text) tokens (join_with_byte-slice_split 10 text) (omega arith) e

@@ -2,14 +2,13 @@
 use Rattle.std.proofs.Common.{◌≡◌, ℕ, zero, suc, ◌+◌, ◌-◌, ◌<◌, ◌≤◌, ◌∙◌, List, [], ◌∷◌, ◌++◌, ◌^◌, drop, take, length, Result, Ok, Err, ap, refl, sym, arith, append_assoc, length-drop}
 use Rattle.std.proofs.lemmas.List.{take_rest}
 use Rattle.std.proofs.lemmas.List.Sums.{fold-append}
-use Rattle.kern_lexer.specs.Answers.{IsEndOf}
 use Rattle.kern_lexer.specs.declared.fault.LexEnd.{LexEnd}
 use Rattle.kern_lexer.specs.declared.fault.LexEnd.TheVariants.{Fault, Memory}
 use Rattle.kern_lexer.specs.Brackets.{open_after, open_behind}
 use Rattle.kern_lexer.specs.Bytes.{Bytes}
 use Rattle.kern_lexer.specs.Faults.{LexFault, ◌>>=◌, placed}
 use Rattle.kern_lexer.specs.Fronts.{Fronted, front_of, bytes_of}
-use Rattle.kern_lexer.specs.Steps.{step_from, words_after}
+use Rattle.kern_lexer.specs.Steps.{EndsReading, step_from, words_after}
 use Rattle.kern_lexer.specs.Words.{tokens_at, words_from}
 use Rattle.kern_lexer.specs.declared.front.Front.{Front}
 use Rattle.kern_lexer.specs.declared.layout.Bracket.{Bracket}
@@ -92,15 +91,15 @@ step-faults tokens brackets line at rest fault some e = at_front (front_of rest)
     at_front (Ok front) is = absurd (let found : step_from tokens brackets line at rest ≡ Ok (bytes_of front, (tokens ++ tokens_at line at front, open_behind brackets (tokens_at line at front))) = rw is refl in cc)
 
 -- an end of what is read stays one where it is the same that is read
-pub end-same : {Y : Type 0} (end : LexEnd) {read again : Result Y LexFault} → read ≡ again → IsEndOf end read
-    → IsEndOf end again
+pub end-same : {Y : Type 0} (end : LexEnd) {read again : Result Y LexFault} → read ≡ again → EndsReading end read
+    → EndsReading end again
 end-same (Fault at kind) same is = sym same ∙ is
 end-same Memory same is = tt
 
 -- an end at the front is the end of the words
 pub step-ends : (tokens : List Token) (brackets : List Bracket) (line at : ℕ) (rest : Bytes) (end : LexEnd)
-    → 0 < length rest → IsEndOf end (step_from tokens brackets line at rest)
-    → IsEndOf end (words_after tokens brackets (words_from line at 0 rest))
+    → 0 < length rest → EndsReading end (step_from tokens brackets line at rest)
+    → EndsReading end (words_after tokens brackets (words_from line at 0 rest))
 step-ends tokens brackets line at rest (Fault place kind) some is = step-faults tokens brackets line at rest _ some is
 step-ends tokens brackets line at rest Memory some is = tt
 

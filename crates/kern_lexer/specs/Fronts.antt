@@ -68,7 +68,8 @@ bytes_of (Token kind len) = len
 
 -- whether a token stands at the front, a wrong number, text or name included
 abbrev pub is_token_front : Fronted → Bool
-is_token_front (Ok front) = true
+is_token_front (Ok Space) = false
+is_token_front (Ok (Token kind len)) = true
 is_token_front (Err F.Tab) = false
 is_token_front (Err F.Byte) = false
 is_token_front (Err kind) = true

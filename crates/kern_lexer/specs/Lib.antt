@@ -1,13 +1,17 @@
 pub mod Answers
 pub mod Brackets
 pub mod Bytes
+pub mod Cuts
 pub mod Faults
 pub mod Fronts
 pub mod Keys
+pub mod Layouts
 pub mod Lines
+pub mod Made
 pub mod Margins
 pub mod Names
 pub mod Numbers
+pub mod Pieces
 pub mod Signs
 pub mod Spelled
 pub mod Spellings
@@ -15,3 +19,4 @@ pub mod Steps
 pub mod Symbols
 pub mod Tokens
 pub mod Words
+pub mod Wrong

@@ -1,5 +1,5 @@
 -- What a step of the lexer leaves: the tokens so far, and what is open.
-use Rattle.std.specs.Prelude.{ℕ, ◌+◌, List, ◌++◌, Result, Ok, reverse}
+use Rattle.std.specs.Prelude.{◌≡◌, ℕ, ◌+◌, List, ◌++◌, Result, Ok, Err, reverse}
 use Rattle.kern_lexer.specs.Brackets.{open_behind}
 use Rattle.kern_lexer.specs.Bytes.{Bytes}
 use Rattle.kern_lexer.specs.Faults.{LexFault, ◌>>=◌, placed}
@@ -7,6 +7,8 @@ use Rattle.kern_lexer.specs.Fronts.{front_of, bytes_of}
 use Rattle.kern_lexer.specs.Margins.{Margin, margin, width_of}
 use Rattle.kern_lexer.specs.Tokens.{Left, LineTokens, margin_of, margin_or_fault, marks_at}
 use Rattle.kern_lexer.specs.Words.{tokens_at, words_from}
+use Rattle.kern_lexer.specs.declared.fault.LexEnd.{LexEnd}
+use Rattle.kern_lexer.specs.declared.fault.LexEnd.TheVariants.{Fault, Memory}
 use Rattle.kern_lexer.specs.declared.layout.Bracket.{Bracket}
 use Rattle.kern_lexer.specs.declared.layout.Layout.{Layout}
 use Rattle.kern_lexer.specs.declared.token.Token.{Token}
@@ -56,3 +58,8 @@ abbrev pub text_after : List Token → Result (List Token) LexFault → Result (
 text_after tokens following = do
   more ← following
   Ok (tokens ++ more)
+
+-- an end is the fault that reading gives, or want of memory
+abbrev pub EndsReading : {Y : Type 0} → LexEnd → Result Y LexFault → Type 0
+EndsReading (Fault at kind) read = read ≡ Err (record { at = at; kind = kind })
+EndsReading Memory read = Unit {0}

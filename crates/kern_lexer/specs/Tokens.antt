@@ -1,4 +1,4 @@
--- The tokens of a text, or its first fault.
+-- A plain function that only the code's proof goes by; Answers.antt says what a text has, and a law that this gives it.
 use Rattle.std.specs.Prelude.{ℕ, suc, ◌+◌, List, [], ◌∷◌, ◌++◌, Option, Some, None, Result, Ok, Err, drop, length, map, replicate, if◌then◌else◌}
 use Rattle.kern_lexer.specs.Brackets.{open_behind}
 use Rattle.kern_lexer.specs.Bytes.{Bytes}
@@ -84,6 +84,6 @@ tokens_from left line at (first ∷ next ∷ rest) = do
   others ← tokens_from found.left (suc line) (suc (at + length first)) (next ∷ rest)
   Ok (found.tokens ++ others)
 
--- the tokens of a text, or its first fault
+-- what going over the lines of a text gives
 unfoldable pub tokens_of : Bytes → Result (List Token) LexFault
 tokens_of text = tokens_from (record { widths = []; brackets = [] }) 1 0 (lines_of text)

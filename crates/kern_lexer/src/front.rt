@@ -98,5 +98,9 @@ pub(crate) fn front_of(bytes: &[u8]) -> Result<Front, LexKind>
 pub(crate) fn begins_token(bytes: &[u8]) -> bool
     ensures { result ≡ begins_token bytes.now }
 {
-    !bytes.is_empty() && !matches!(front_of(bytes), Err(LexKind::Tab | LexKind::Byte))
+    !bytes.is_empty()
+        && !matches!(
+            front_of(bytes),
+            Ok(Front::Space) | Err(LexKind::Tab | LexKind::Byte)
+        )
 }

@@ -1,14 +1,20 @@
 //! What holds of the tokens of every text.
 
-ghost use Rattle.std.specs.Prelude.{◌≡◌, ℕ, ◌+◌, ◌*◌, ◌<◌, ◌≤◌, ◌^◌, ◌⊎◌, ◌++◌, ◌∷◌, List, Some, decimal, length};
+ghost use Rattle.std.specs.Prelude.{◌≡◌, ℕ, ◌+◌, ◌*◌, ◌<◌, ◌≤◌, ◌^◌, ◌⊎◌, ◌↔◌, ◌++◌, ◌∷◌, List, Some, None, Ok, Err, IsTrue, decimal, length, nat_eq};
+ghost use Rattle.std.specs.List.{starts_with};
 ghost use Rattle.kern_lexer.specs.Answers.{HasFault, HasTokens};
 ghost use Rattle.kern_lexer.specs.Bytes.{Bytes, space};
 ghost use Rattle.kern_lexer.specs.Faults.{LexFault};
 ghost use Rattle.kern_lexer.specs.Numbers.{number_of};
+ghost use Rattle.kern_lexer.specs.Pieces.{Piece, StandsRightly, bytes_of_piece};
+ghost use Rattle.kern_lexer.specs.Signs.{sign_at, sign_text};
 ghost use Rattle.kern_lexer.specs.Spelled.{EndsOnce, IsInner};
 ghost use Rattle.kern_lexer.specs.Spellings.{StandsBefore, followed_by, spelling, token_of};
 ghost use Rattle.kern_lexer.specs.Symbols.{Symbol};
+ghost use Rattle.kern_lexer.specs.Tokens.{tokens_of};
 ghost use Rattle.kern_lexer.specs.Words.{words_from};
+ghost use Rattle.kern_lexer.specs.Wrong.{FitsLine};
+ghost use Rattle.kern_lexer.specs.declared.token.Sign.{Sign};
 ghost use Rattle.kern_lexer.specs.declared.token.Token.{Token};
 
 /// A text has at most one list of tokens.
@@ -32,6 +38,38 @@ pub fn tokens_or_fault()
 pub fn never_both()
     ensures { (text : Bytes) (tokens : List Token) (fault : LexFault) →
         HasTokens text tokens → HasFault text fault → ⊥ }
+{}
+
+/// Where the first fault of a text stands, no piece rightly goes on from those before it: nothing
+/// that follows there is a token with a right width, a space, a comment or a line's end.
+pub fn nothing_stands_at_a_fault()
+    ensures { (text : Bytes) (fault : LexFault) (has : HasFault text fault) →
+        (p : Piece) (following : Bytes) → has.rest ≡ bytes_of_piece p ++ following →
+        StandsRightly p following → FitsLine has.pieces p → ⊥ }
+{}
+
+/// The sign that is read at the front of some bytes is the longest that they begin with, and where
+/// none is read they begin with none.
+pub fn longest_signs_are_read()
+    ensures begins { (bytes : Bytes) (s : Sign) → sign_at bytes ≡ Some s →
+        IsTrue (starts_with nat_eq bytes (sign_text s)) }
+    ensures longest { (bytes : Bytes) (s t : Sign) → sign_at bytes ≡ Some s →
+        IsTrue (starts_with nat_eq bytes (sign_text t)) →
+        length (sign_text t) ≤ length (sign_text s) }
+    ensures none { (bytes : Bytes) (t : Sign) → sign_at bytes ≡ None →
+        ¬ IsTrue (starts_with nat_eq bytes (sign_text t)) }
+{}
+
+/// The tokens of a text are those that going over its lines gives.
+pub fn tokens_are_computed()
+    ensures { (text : Bytes) (tokens : List Token) →
+        HasTokens text tokens ↔ (tokens_of text ≡ Ok tokens) }
+{}
+
+/// The first fault of a text is the one at which going over its lines ends.
+pub fn faults_are_computed()
+    ensures { (text : Bytes) (fault : LexFault) →
+        HasFault text fault ↔ (tokens_of text ≡ Err fault) }
 {}
 
 /// The last token of a text is its End, and no other is. Each token lies within the text, and

@@ -1,6 +1,8 @@
-ghost use Rattle.std.specs.Prelude.{◌≡◌, ◌<◌, ◌^◌, ◌++◌, ◌∷◌, [], IfErr, IfOk, OnOk, length, replicate};
-ghost use Rattle.kern_lexer.specs.Answers.{HasTokens, IsEndOf};
-ghost use Rattle.kern_lexer.specs.Tokens.{marks_at, tokens_of};
+ghost use Rattle.std.specs.Prelude.{◌≡◌, ◌<◌, ◌^◌, ◌++◌, ◌∷◌, [], List, IfErr, IfOk, MatchResult, OnOk, length, replicate};
+ghost use Rattle.kern_lexer.specs.Answers.{HasFault, HasTokens, IsEndOf, IsEndAt, IsMemory};
+ghost use Rattle.kern_lexer.specs.Faults.{LexFault};
+ghost use Rattle.kern_lexer.specs.Tokens.{marks_at};
+ghost use Rattle.kern_lexer.specs.declared.token.Token.{Token};
 
 use crate::fault::LexEnd;
 use crate::layout::Layout;
@@ -30,7 +32,11 @@ fn end_text(tokens: &mut Vec<Token>, depth: usize, line: u32, at: usize) -> Resu
 pub fn lex(alloc: Global, bytes: &[u8]) -> Result<Vec<Token>, LexEnd>
     requires { length bytes.now < 2 ^ 31 }
     ensures tokens { IfOk result (λ v. HasTokens bytes.now v.items) }
-    ensures fault { IfErr result (λ end. IsEndOf end (tokens_of bytes.now)) }
+    ensures fault { IfErr result (IsEndOf bytes.now) }
+    ensures only { (tokens : List Token) → HasTokens bytes.now tokens →
+        MatchResult result (λ v. v.items ≡ tokens) IsMemory }
+    ensures refused { (fault : LexFault) → HasFault bytes.now fault →
+        MatchResult result (λ v. ⊥) (IsEndAt fault) }
 {
     let mut tokens = Vec::new(alloc);
     let mut layout = Layout {

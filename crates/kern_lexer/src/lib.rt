@@ -18,8 +18,9 @@ mod words;
 
 pub use fault::{LexEnd, LexKind};
 pub use laws::{
-    decimals_are_read, never_both, one_first_fault, one_token_list, spaces_are_skipped,
-    spellings_are_read, tokens_end_once, tokens_or_fault, two_tokens_a_byte,
+    decimals_are_read, faults_are_computed, longest_signs_are_read, never_both,
+    nothing_stands_at_a_fault, one_first_fault, one_token_list, spaces_are_skipped,
+    spellings_are_read, tokens_are_computed, tokens_end_once, tokens_or_fault, two_tokens_a_byte,
 };
 pub use lexing::lex;
 pub use token::{Key, Sign, Token, TokenKind};

@@ -1,7 +1,6 @@
 ghost use Rattle.std.specs.Prelude.{◌≡◌, ◌+◌, ◌<◌, ◌^◌, ◌++◌, Ok, IfErr, OnOk, ◌==◌, drop, length, position, reverse};
-ghost use Rattle.kern_lexer.specs.Answers.{IsEndOf};
 ghost use Rattle.kern_lexer.specs.Lines.{without_comment, without_return};
-ghost use Rattle.kern_lexer.specs.Steps.{left_of, line_after};
+ghost use Rattle.kern_lexer.specs.Steps.{EndsReading, left_of, line_after};
 ghost use Rattle.kern_lexer.specs.Tokens.{ended_line, last_line, line_tokens, newline_after};
 
 use crate::fault::LexEnd;
@@ -65,7 +64,7 @@ fn read_line(
         line_after tokens.old.items
         (line_tokens (left_of layout.old) newline.line at code.now newline)
         ≡ Ok (record { tokens = tokens.new.items; left = left_of layout.new })) }
-    ensures fault { IfErr result (λ end. IsEndOf end
+    ensures fault { IfErr result (λ end. EndsReading end
         (line_after tokens.old.items
         (line_tokens (left_of layout.old) newline.line at code.now newline))) }
 {
@@ -88,7 +87,7 @@ pub(crate) fn read_ended_line(
     ensures ok { OnOk result (
         line_after tokens.old.items (ended_line (left_of layout.old) line at bytes.now)
         ≡ Ok (record { tokens = tokens.new.items; left = left_of layout.new })) }
-    ensures fault { IfErr result (λ end. IsEndOf end
+    ensures fault { IfErr result (λ end. EndsReading end
         (line_after tokens.old.items (ended_line (left_of layout.old) line at bytes.now))) }
 {
     let newline = Token {
@@ -118,7 +117,7 @@ pub(crate) fn read_last_line(
     ensures ok { OnOk result (
         line_after tokens.old.items (last_line (left_of layout.old) line at bytes.now)
         ≡ Ok (record { tokens = tokens.new.items; left = left_of layout.new })) }
-    ensures fault { IfErr result (λ end. IsEndOf end
+    ensures fault { IfErr result (λ end. EndsReading end
         (line_after tokens.old.items (last_line (left_of layout.old) line at bytes.now))) }
 {
     let newline = Token {

@@ -1,7 +1,6 @@
 ghost use Rattle.std.specs.Prelude.{◌≡◌, ◌+◌, ◌-◌, ◌<◌, ◌^◌, ◌++◌, Ok, IfErr, OnOk, drop, length, replicate, reverse, vec_len};
-ghost use Rattle.kern_lexer.specs.Answers.{IsEndOf};
 ghost use Rattle.kern_lexer.specs.Margins.{closed_down_to, top_of, width_of};
-ghost use Rattle.kern_lexer.specs.Steps.{left_of, margin_marked, margin_read};
+ghost use Rattle.kern_lexer.specs.Steps.{EndsReading, left_of, margin_marked, margin_read};
 ghost use Rattle.kern_lexer.specs.Tokens.{marks_at};
 
 use crate::fault::{LexEnd, LexKind};
@@ -59,7 +58,7 @@ fn mark_margin(
     ensures ok { OnOk result (
         margin_marked tokens.old.items (reverse widths.old.items) line at width
         ≡ Ok (tokens.new.items, reverse widths.new.items)) }
-    ensures fault { IfErr result (λ end. IsEndOf end
+    ensures fault { IfErr result (λ end. EndsReading end
         (margin_marked tokens.old.items (reverse widths.old.items) line at width)) }
 {
     if width > top_of(widths) {
@@ -98,7 +97,7 @@ pub(crate) fn read_margin(
     ensures ok { OnOk result (
         margin_read tokens.old.items (left_of layout.old) line at code.now
         ≡ Ok (tokens.new.items, reverse layout.new.widths.items)) }
-    ensures fault { IfErr result (λ end. IsEndOf end
+    ensures fault { IfErr result (λ end. EndsReading end
         (margin_read tokens.old.items (left_of layout.old) line at code.now)) }
     ensures brackets { layout.new.brackets ≡ layout.old.brackets }
 {

@@ -1,6 +1,5 @@
 ghost use Rattle.std.specs.Prelude.{◌≡◌, ◌+◌, ◌<◌, ◌≤◌, ◌^◌, ◌++◌, ◌∷◌, [], Ok, IfOk, IfErr, OnOk, length, reverse};
-ghost use Rattle.kern_lexer.specs.Answers.{IsEndOf};
-ghost use Rattle.kern_lexer.specs.Steps.{step_from, words_read};
+ghost use Rattle.kern_lexer.specs.Steps.{EndsReading, step_from, words_read};
 
 use crate::fault::LexEnd;
 use crate::front::{Front, front_of};
@@ -45,7 +44,7 @@ fn read_front(
         step_from tokens.old.items (reverse brackets.old.items) line at rest.now
         ≡ Ok (len, (tokens.new.items, reverse brackets.new.items))) }
     ensures fault { IfErr result (λ end.
-        IsEndOf end (step_from tokens.old.items (reverse brackets.old.items) line at rest.now)) }
+        EndsReading end (step_from tokens.old.items (reverse brackets.old.items) line at rest.now)) }
 {
     match front_of(rest) {
         Ok(Front::Space) => Ok(1),
@@ -73,7 +72,7 @@ pub(crate) fn read_words(
     ensures ok { OnOk result (
         words_read tokens.old.items (reverse brackets.old.items) line start code.now
         ≡ Ok (tokens.new.items, reverse brackets.new.items)) }
-    ensures fault { IfErr result (λ end. IsEndOf end
+    ensures fault { IfErr result (λ end. EndsReading end
         (words_read tokens.old.items (reverse brackets.old.items) line start code.now)) }
 {
     let mut at = start;
