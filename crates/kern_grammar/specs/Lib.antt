@@ -1,0 +1,13 @@
+pub mod Accepted
+pub mod BlockPlans
+pub mod Blocks
+pub mod Canonical
+pub mod Expressions
+pub mod Operators
+pub mod Phrases
+pub mod Plans
+pub mod Reading
+pub mod Simple
+pub mod SimplePlans
+pub mod Spelled
+pub mod Views

@@ -1,0 +1,9 @@
+//! The grammar of kernel texts: which tokens have which tree, and what holds of every list of
+//! tokens.
+#![tactic(auto)]
+
+mod joiner;
+mod laws;
+
+pub use joiner::Joiner;
+pub use laws::{canonical_tokens_parse, one_expression, one_tree};
