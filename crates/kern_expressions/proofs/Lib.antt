@@ -1,0 +1,3 @@
+mod ArgumentLists
+mod Exits
+mod Lexemes

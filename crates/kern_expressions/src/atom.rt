@@ -1,0 +1,342 @@
+//! Reading atoms from the front of tokens: integers, truth values, names with what they are used
+//! for, and expressions in parentheses.
+
+ghost use Rattle.std.specs.Prelude.{◌≡◌, ◌+◌, ◌-◌, suc, length, IfOk, IsTrue};
+ghost use Rattle.kern_lexer.specs.Names.{is_quotable};
+ghost use Rattle.kern_lexer.specs.Symbols.{bytes_at};
+ghost use Rattle.kern_expressions.specs.Given.{GivesExpression, GivesRead, item_of, symbols_left};
+ghost use Rattle.kern_grammar.specs.Reading.{arguments, atom, bare_atom, behind_dot, behind_method, behind_name, closed, comma_or_close, enclosed, ended, is_close_bracket, is_close_parenthesis, item, items, value_item, inside_of};
+ghost use Rattle.kern_syntax.specs.Tree.{element, group};
+ghost use Rattle.kern_syntax.specs.TreeOf.{arguments_of, expression_of};
+
+use crate::expression::{LOOSEST, level_at};
+use crate::read_end::ReadEnd;
+use crate::tokens::Tokens;
+use kern_lexer::{Key, Sign, TokenKind};
+use kern_syntax::{Argument, Expr, Identifier};
+use rtio_types::Name;
+use std::alloc::{AllocError, Global};
+
+fn grouped(alloc: Global, e: Expr) -> Result<Expr, AllocError>
+    ensures { IfOk result (λ g. expression_of g ≡ group (expression_of e)) }
+{
+    Ok(Expr::Group(Box::new(alloc, e)?))
+}
+
+fn indexed(alloc: Global, array: Identifier, index: Expr) -> Result<Expr, AllocError>
+    ensures { IfOk result (λ e. expression_of e ≡ element array (expression_of index)) }
+{
+    Ok(Expr::Index(array, Box::new(alloc, index)?))
+}
+
+pub fn identifier(alloc: Global, bytes: &[u8]) -> Result<Identifier, AllocError>
+    ensures { IfOk result (λ name. name ≡ bytes.now) }
+{
+    Ok(Identifier::of(Vec::from_slice(alloc, bytes)?))
+}
+
+/// What is read up to a closing parenthesis.
+fn close_parenthesis<'a>(e: Expr, tokens: Tokens<'a>) -> Result<(Expr, Tokens<'a>), ReadEnd<'a>>
+    ensures { GivesExpression result
+        (closed is_close_parenthesis (expression_of e) (symbols_left tokens.entry)) }
+{
+    match tokens.list {
+        [] => Err(ReadEnd::Fault(tokens)),
+        [first, ..] => match first.kind {
+            TokenKind::Sign(Sign::CloseParenthesis) => Ok((e, tokens.tail())),
+            _ => Err(ReadEnd::Fault(tokens)),
+        },
+    }
+}
+
+/// What is read up to a closing bracket.
+fn close_bracket<'a>(e: Expr, tokens: Tokens<'a>) -> Result<(Expr, Tokens<'a>), ReadEnd<'a>>
+    ensures { GivesExpression result
+        (closed is_close_bracket (expression_of e) (symbols_left tokens.entry)) }
+{
+    match tokens.list {
+        [] => Err(ReadEnd::Fault(tokens)),
+        [first, ..] => match first.kind {
+            TokenKind::Sign(Sign::CloseBracket) => Ok((e, tokens.tail())),
+            _ => Err(ReadEnd::Fault(tokens)),
+        },
+    }
+}
+
+/// An atom that no opening bracket and no dot follows.
+#[cycle(levels)]
+pub fn atom_at<'a>(
+    alloc: Global,
+    room: u32,
+    tokens: Tokens<'a>,
+) -> Result<(Expr, Tokens<'a>), ReadEnd<'a>>
+    ensures { GivesExpression result (atom (inside_of room) (symbols_left tokens.entry)) }
+{
+    let (e, rest) = bare_atom_at(alloc, room, tokens)?;
+    ended_atom(e, rest)
+}
+
+fn ended_atom<'a>(e: Expr, tokens: Tokens<'a>) -> Result<(Expr, Tokens<'a>), ReadEnd<'a>>
+    ensures { GivesExpression result (ended (expression_of e) (symbols_left tokens.entry)) }
+{
+    match tokens.list {
+        [] => Ok((e, tokens)),
+        [first, ..] => match first.kind {
+            TokenKind::Sign(Sign::OpenParenthesis | Sign::OpenBracket | Sign::Dot) => {
+                Err(ReadEnd::Fault(tokens))
+            }
+            _ => Ok((e, tokens)),
+        },
+    }
+}
+
+/// An atom, whatever follows it.
+#[cycle(levels)]
+fn bare_atom_at<'a>(
+    alloc: Global,
+    room: u32,
+    tokens: Tokens<'a>,
+) -> Result<(Expr, Tokens<'a>), ReadEnd<'a>>
+    ensures { GivesExpression result (bare_atom (inside_of room) (symbols_left tokens.entry)) }
+{
+    match tokens.list {
+        [] => Err(ReadEnd::Fault(tokens)),
+        [first, ..] => match first.kind {
+            TokenKind::Integer(n) => Ok((Expr::Integer(n), tokens.tail())),
+            TokenKind::Name => {
+                let bytes = tokens.bytes_at(first.at as usize, first.len as usize);
+                let name = identifier(alloc, bytes)?;
+                named_at(alloc, room, name, tokens.tail())
+            }
+            TokenKind::Key(key) => match key {
+                Key::True => Ok((Expr::True, tokens.tail())),
+                Key::False => Ok((Expr::False, tokens.tail())),
+                _ => Err(ReadEnd::Fault(tokens)),
+            },
+            TokenKind::Sign(sign) => match sign {
+                Sign::OpenParenthesis => group_at(alloc, room, tokens),
+                _ => Err(ReadEnd::Fault(tokens)),
+            },
+            _ => Err(ReadEnd::Fault(tokens)),
+        },
+    }
+}
+
+/// An expression in parentheses, of which the opening one is the first token.
+#[cycle(levels)]
+fn group_at<'a>(
+    alloc: Global,
+    room: u32,
+    tokens: Tokens<'a>,
+) -> Result<(Expr, Tokens<'a>), ReadEnd<'a>>
+    ensures { GivesExpression result
+        (enclosed (inside_of room) is_close_parenthesis group (symbols_left tokens.entry)) }
+{
+    if room == 0 {
+        return Err(ReadEnd::Fault(tokens));
+    }
+    let (e, behind) = level_at(alloc, room - 1, LOOSEST, tokens.tail())?;
+    let group = grouped(alloc, e)?;
+    close_parenthesis(group, behind)
+}
+
+/// An element of an array, from the opening bracket of its index on.
+#[cycle(levels)]
+fn element_at<'a>(
+    alloc: Global,
+    room: u32,
+    array: Identifier,
+    tokens: Tokens<'a>,
+) -> Result<(Expr, Tokens<'a>), ReadEnd<'a>>
+    ensures { GivesExpression result
+        (enclosed (inside_of room) is_close_bracket (element array) (symbols_left tokens.entry)) }
+{
+    if room == 0 {
+        return Err(ReadEnd::Fault(tokens));
+    }
+    let (index, behind) = level_at(alloc, room - 1, LOOSEST, tokens.tail())?;
+    let element = indexed(alloc, array, index)?;
+    close_bracket(element, behind)
+}
+
+/// A name with an index, with arguments, with a method, or alone, from what follows the name on.
+#[cycle(levels)]
+fn named_at<'a>(
+    alloc: Global,
+    room: u32,
+    name: Identifier,
+    tokens: Tokens<'a>,
+) -> Result<(Expr, Tokens<'a>), ReadEnd<'a>>
+    ensures { GivesExpression result (behind_name (inside_of room) name (symbols_left tokens.entry)) }
+{
+    match tokens.list {
+        [] => Ok((Expr::Variable(name), tokens)),
+        [first, ..] => match first.kind {
+            TokenKind::Sign(sign) => match sign {
+                Sign::OpenBracket => element_at(alloc, room, name, tokens),
+                Sign::OpenParenthesis => {
+                    let (arguments, rest) = arguments_at(alloc, room, tokens.tail())?;
+                    Ok((Expr::Call(name, arguments), rest))
+                }
+                Sign::Dot => method_at(alloc, room, name, tokens.tail()),
+                _ => Ok((Expr::Variable(name), tokens)),
+            },
+            _ => Ok((Expr::Variable(name), tokens)),
+        },
+    }
+}
+
+/// The method of an object, from what follows the dot on.
+#[cycle(levels)]
+fn method_at<'a>(
+    alloc: Global,
+    room: u32,
+    object: Identifier,
+    tokens: Tokens<'a>,
+) -> Result<(Expr, Tokens<'a>), ReadEnd<'a>>
+    ensures { GivesExpression result (behind_dot (inside_of room) object (symbols_left tokens.entry)) }
+{
+    match tokens.list {
+        [] => Err(ReadEnd::Fault(tokens)),
+        [first, ..] => match first.kind {
+            TokenKind::Name => {
+                let bytes = tokens.bytes_at(first.at as usize, first.len as usize);
+                let method = identifier(alloc, bytes)?;
+                called_method_at(alloc, room, object, method, tokens.tail())
+            }
+            _ => Err(ReadEnd::Fault(tokens)),
+        },
+    }
+}
+
+/// A call of a method, from what follows its name on.
+#[cycle(levels)]
+fn called_method_at<'a>(
+    alloc: Global,
+    room: u32,
+    object: Identifier,
+    method: Identifier,
+    tokens: Tokens<'a>,
+) -> Result<(Expr, Tokens<'a>), ReadEnd<'a>>
+    ensures { GivesExpression result
+        (behind_method (inside_of room) object method (symbols_left tokens.entry)) }
+{
+    match tokens.list {
+        [] => Err(ReadEnd::Fault(tokens)),
+        [first, ..] => match first.kind {
+            TokenKind::Sign(sign) => match sign {
+                Sign::OpenParenthesis => {
+                    let (arguments, rest) = arguments_at(alloc, room, tokens.tail())?;
+                    Ok((Expr::Method(object, method, arguments), rest))
+                }
+                _ => Err(ReadEnd::Fault(tokens)),
+            },
+            _ => Err(ReadEnd::Fault(tokens)),
+        },
+    }
+}
+
+/// What stands behind an argument: a comma, so that another follows, or the closing parenthesis.
+fn comma_or_close<'a>(tokens: Tokens<'a>) -> Result<(bool, Tokens<'a>), ReadEnd<'a>>
+    ensures { GivesRead (λ more. more) result (comma_or_close (symbols_left tokens.entry)) }
+{
+    match tokens.list {
+        [] => Err(ReadEnd::Fault(tokens)),
+        [first, ..] => match first.kind {
+            TokenKind::Sign(sign) => match sign {
+                Sign::Comma => Ok((true, tokens.tail())),
+                Sign::CloseParenthesis => Ok((false, tokens.tail())),
+                _ => Err(ReadEnd::Fault(tokens)),
+            },
+            _ => Err(ReadEnd::Fault(tokens)),
+        },
+    }
+}
+
+/// The arguments of a call and the closing parenthesis, from what follows the opening one on.
+#[cycle(levels)]
+fn arguments_at<'a>(
+    alloc: Global,
+    room: u32,
+    tokens: Tokens<'a>,
+) -> Result<(Vec<Argument>, Tokens<'a>), ReadEnd<'a>>
+    ensures { GivesRead (λ args. arguments_of args.items) result
+        (arguments (inside_of room) (symbols_left tokens.entry)) }
+{
+    match tokens.list {
+        [] => items_at(alloc, room, tokens),
+        [first, ..] => match first.kind {
+            TokenKind::Sign(Sign::CloseParenthesis) => Ok((Vec::new(alloc), tokens.tail())),
+            _ => items_at(alloc, room, tokens),
+        },
+    }
+}
+
+/// At least one argument, and the closing parenthesis.
+#[cycle(levels)]
+fn items_at<'a>(
+    alloc: Global,
+    room: u32,
+    tokens: Tokens<'a>,
+) -> Result<(Vec<Argument>, Tokens<'a>), ReadEnd<'a>>
+    ensures { GivesRead (λ args. arguments_of args.items) result
+        (items (inside_of room) (suc (length (symbols_left tokens.entry))) (symbols_left tokens.entry)) }
+{
+    let mut arguments = Vec::new(alloc);
+    let mut rest = tokens;
+    'items: loop {
+        let (argument, behind) = argument_at(alloc, room, rest)?;
+        arguments.push(argument)?;
+        let (more, next) = comma_or_close(behind)?;
+        if !more {
+            return Ok((arguments, next));
+        }
+        rest = next;
+    }
+}
+
+/// An argument: an expression, or a text in quotes.
+#[cycle(levels)]
+fn argument_at<'a>(
+    alloc: Global,
+    room: u32,
+    tokens: Tokens<'a>,
+) -> Result<(Argument, Tokens<'a>), ReadEnd<'a>>
+    ensures { GivesRead item_of result (item (inside_of room) (symbols_left tokens.entry)) }
+{
+    match tokens.list {
+        [] => value_at(alloc, room, tokens),
+        [first, ..] => match first.kind {
+            TokenKind::Text => {
+                let name = quoted_name(tokens, first.at, first.len);
+                Ok((Argument::Text(name), tokens.tail()))
+            }
+            _ => value_at(alloc, room, tokens),
+        },
+    }
+}
+
+/// The text in quotes at a range of the text, quotes included.
+pub fn quoted_name(tokens: Tokens, at: u32, len: u32) -> Name
+    requires { IsTrue (is_quotable (bytes_at (at + 1) (len - 2) tokens.text.now)) }
+    ensures { result ≡ bytes_at (at + 1) (len - 2) tokens.entry.text.now }
+{
+    let bytes = tokens.bytes_at(at as usize + 1, (len as usize).saturating_sub(2));
+    Name::read(bytes).unwrap()
+}
+
+/// An expression as an argument.
+#[cycle(levels)]
+fn value_at<'a>(
+    alloc: Global,
+    room: u32,
+    tokens: Tokens<'a>,
+) -> Result<(Argument, Tokens<'a>), ReadEnd<'a>>
+    ensures { GivesRead item_of result (value_item (inside_of room) (symbols_left tokens.entry)) }
+{
+    if room == 0 {
+        return Err(ReadEnd::Fault(tokens));
+    }
+    let (e, rest) = level_at(alloc, room - 1, LOOSEST, tokens)?;
+    Ok((Argument::Value(e), rest))
+}

@@ -1,0 +1,199 @@
+//! Reading expressions from the front of tokens, level by level.
+//!
+//! A level is how loosely an expression's form binds: 0 for an atom, 11 for `or`. The room is the
+//! number of nestings that may still be opened.
+
+ghost use Rattle.std.specs.Prelude.{◌≡◌, ◌≤◌, ◌-◌, IfOk, OnOk};
+ghost use Rattle.kern_expressions.specs.Given.{GivesExpression, symbols_left};
+ghost use Rattle.kern_expressions.specs.TakenBy.{GivesTaken, lexemes_left};
+ghost use Rattle.kern_grammar.specs.Operators.{join};
+ghost use Rattle.kern_grammar.specs.Reading.{comparison, end_of_comparison, inside_of, level_reader, not_at, prefixed, row, unary_at};
+ghost use Rattle.kern_grammar.specs.SimplePlans.{take_expression};
+ghost use Rattle.kern_syntax.specs.Tree.{compare, negation, unary};
+ghost use Rattle.kern_syntax.specs.TreeOf.{expression_of};
+
+use crate::atom::atom_at;
+use crate::operator::{begins_with_not, comparison_at, joiner_at, prefix_at};
+use crate::read_end::ReadEnd;
+use crate::tokens::Tokens;
+use kern_grammar::Joiner;
+use kern_syntax::{Comparison, Expr, UnaryOperator};
+use std::alloc::{AllocError, Global};
+
+/// The level of a whole expression.
+pub const LOOSEST: u32 = 11;
+
+/// The most operators of one level in a row.
+const MOST_TURNS: u32 = 16;
+
+fn joined(alloc: Global, joiner: Joiner, left: Expr, right: Expr) -> Result<Expr, AllocError>
+    ensures { IfOk result (λ e. expression_of e ≡ join joiner (expression_of left) (expression_of right)) }
+{
+    let left = Box::new(alloc, left)?;
+    let right = Box::new(alloc, right)?;
+    match joiner {
+        Joiner::Binary(op) => Ok(Expr::Binary(op, left, right)),
+        Joiner::And => Ok(Expr::And(left, right)),
+        Joiner::Or => Ok(Expr::Or(left, right)),
+    }
+}
+
+fn compared(alloc: Global, op: Comparison, left: Expr, right: Expr) -> Result<Expr, AllocError>
+    ensures { IfOk result (λ e. expression_of e ≡ compare op (expression_of left) (expression_of right)) }
+{
+    let left = Box::new(alloc, left)?;
+    let right = Box::new(alloc, right)?;
+    Ok(Expr::Compare(op, left, right))
+}
+
+fn with_prefix(alloc: Global, op: UnaryOperator, operand: Expr) -> Result<Expr, AllocError>
+    ensures { IfOk result (λ e. expression_of e ≡ unary op (expression_of operand)) }
+{
+    Ok(Expr::Unary(op, Box::new(alloc, operand)?))
+}
+
+fn negated(alloc: Global, operand: Expr) -> Result<Expr, AllocError>
+    ensures { IfOk result (λ e. expression_of e ≡ negation (expression_of operand)) }
+{
+    Ok(Expr::Not(Box::new(alloc, operand)?))
+}
+
+/// An expression at a level.
+#[cycle(levels)]
+pub fn level_at<'a>(
+    alloc: Global,
+    room: u32,
+    level: u32,
+    tokens: Tokens<'a>,
+) -> Result<(Expr, Tokens<'a>), ReadEnd<'a>>
+    requires { level ≤ 11 }
+    ensures { GivesExpression result (level_reader (inside_of room) level (symbols_left tokens.entry)) }
+{
+    match level {
+        0 => atom_at(alloc, room, tokens),
+        1 => prefixed_at(alloc, room, tokens),
+        8 => compared_at(alloc, room, tokens),
+        9 => negation_at(alloc, room, tokens),
+        _ => row_at(alloc, room, level, tokens),
+    }
+}
+
+/// A row of operators of a level.
+#[cycle(levels)]
+fn row_at<'a>(
+    alloc: Global,
+    room: u32,
+    level: u32,
+    tokens: Tokens<'a>,
+) -> Result<(Expr, Tokens<'a>), ReadEnd<'a>>
+    requires positive { 1 ≤ level }
+    requires known { level ≤ 11 }
+    ensures { GivesExpression result
+        (row 16 level (level_reader (inside_of room) (level - 1)) (symbols_left tokens.entry)) }
+{
+    let (first, after) = level_at(alloc, room, level - 1, tokens)?;
+    let mut e = first;
+    let mut rest = after;
+    let mut more = MOST_TURNS;
+    'turns: loop {
+        let joiner = match joiner_at(level, rest) {
+            None => return Ok((e, rest)),
+            Some(joiner) => joiner,
+        };
+        if more == 0 {
+            return Err(ReadEnd::Fault(rest));
+        }
+        let (right, behind) = level_at(alloc, room, level - 1, rest.tail())?;
+        e = joined(alloc, joiner, e, right)?;
+        rest = behind;
+        more -= 1;
+    }
+}
+
+/// A prefix and its operand, or an atom.
+#[cycle(levels)]
+fn prefixed_at<'a>(
+    alloc: Global,
+    room: u32,
+    tokens: Tokens<'a>,
+) -> Result<(Expr, Tokens<'a>), ReadEnd<'a>>
+    ensures { GivesExpression result
+        (prefixed unary_at (inside_of room) 1 (level_reader (inside_of room) 0) (symbols_left tokens.entry)) }
+{
+    let op = match prefix_at(tokens) {
+        None => return level_at(alloc, room, 0, tokens),
+        Some(op) => op,
+    };
+    if room == 0 {
+        return Err(ReadEnd::Fault(tokens));
+    }
+    let (operand, rest) = level_at(alloc, room - 1, 1, tokens.tail())?;
+    let e = with_prefix(alloc, op, operand)?;
+    Ok((e, rest))
+}
+
+/// A comparison that no other follows, or an operand of one.
+#[cycle(levels)]
+fn compared_at<'a>(
+    alloc: Global,
+    room: u32,
+    tokens: Tokens<'a>,
+) -> Result<(Expr, Tokens<'a>), ReadEnd<'a>>
+    ensures { GivesExpression result
+        (comparison (level_reader (inside_of room) 7) (symbols_left tokens.entry)) }
+{
+    let (left, behind) = level_at(alloc, room, 7, tokens)?;
+    let op = match comparison_at(behind) {
+        None => return Ok((left, behind)),
+        Some(op) => op,
+    };
+    let (right, rest) = level_at(alloc, room, 7, behind.tail())?;
+    let e = compared(alloc, op, left, right)?;
+    ended_comparison(e, rest)
+}
+
+/// A comparison, unless another follows it.
+fn ended_comparison<'a>(e: Expr, tokens: Tokens<'a>) -> Result<(Expr, Tokens<'a>), ReadEnd<'a>>
+    ensures { GivesExpression result (end_of_comparison (expression_of e) (symbols_left tokens.entry)) }
+{
+    match comparison_at(tokens) {
+        None => Ok((e, tokens)),
+        Some(_) => Err(ReadEnd::Fault(tokens)),
+    }
+}
+
+/// `not` and its operand, or a comparison.
+#[cycle(levels)]
+fn negation_at<'a>(
+    alloc: Global,
+    room: u32,
+    tokens: Tokens<'a>,
+) -> Result<(Expr, Tokens<'a>), ReadEnd<'a>>
+    ensures { GivesExpression result
+        (prefixed not_at (inside_of room) 9 (level_reader (inside_of room) 8) (symbols_left tokens.entry)) }
+{
+    if !begins_with_not(tokens) {
+        return level_at(alloc, room, 8, tokens);
+    }
+    if room == 0 {
+        return Err(ReadEnd::Fault(tokens));
+    }
+    let (operand, rest) = level_at(alloc, room - 1, 9, tokens.tail())?;
+    let e = negated(alloc, operand)?;
+    Ok((e, rest))
+}
+
+/// An expression with so much room for nesting.
+pub fn expression_at<'a>(
+    alloc: Global,
+    room: u32,
+    tokens: Tokens<'a>,
+) -> Result<(Expr, Tokens<'a>), ReadEnd<'a>>
+    ensures { GivesTaken expression_of result (take_expression room (lexemes_left tokens.entry)) }
+{
+    match level_at(alloc, room, LOOSEST, tokens) {
+        Ok((e, rest)) => Ok((e, tokens.last(rest.list.len()))),
+        Err(ReadEnd::Fault(left)) => Err(ReadEnd::Fault(tokens.last(left.list.len()))),
+        Err(ReadEnd::Memory) => Err(ReadEnd::Memory),
+    }
+}

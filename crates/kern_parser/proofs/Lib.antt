@@ -1,0 +1,6 @@
+mod BlockExits
+mod BlockTrees
+mod ManyLists
+mod Mapped
+mod Performed
+mod Sequenced

@@ -1,0 +1,70 @@
+use Rattle.std.proofs.Common.{◌≡◌, ◌≤◌, ◌<◌, ◌+◌, ◌*◌, ◌^◌, ◌-◌, ◌∙◌, ap, subst, sym, arith, length}
+use Rattle.std.proofs.lemmas.List.{length-map}
+use Rattle.std.specs.Prelude.{Err}
+use Rattle.kern_lexer.specs.Symbols.{lexeme_of, lexemes_of}
+use Rattle.kern_syntax.specs.TreeOf.{tree_of}
+use Rattle.kern_grammar.specs.Accepted.{IsFirstFault}
+use Rattle.kern_grammar.specs.BlockPlans.{program_plan}
+use Rattle.kern_grammar.specs.Plans.{run}
+use Rattle.kern_expressions.specs.TakenBy.{IsTakenEnd, lexemes_left}
+use Rattle.kern_grammar.proofs.ParseExits.{lexed-spelled, lexed-spellable, lexed-ended, read-lexed, fault-there, left-within, not-both}
+use Rattle.kern_grammar.proofs.ProgramReads
+use Rattle.kern_parser.proofs.parsing.parse.Goals as goal
+
+pub of-requires : goal.of-requires
+of-requires c = lexed-spelled c.args.bytes.now c.args.tokens.now (c.tokens_end_once.ensures c.args.bytes.now c.args.tokens.now c.requires.lexed)
+
+pub overflow_sub-result : goal.overflow_sub-result
+overflow_sub-result c =
+    let refused : run program_plan (lexemes_of c.args.bytes.now c.args.tokens.now) ≡ Err (lexemes_left c.in-Err-Fault.left) =
+    ap (run program_plan) (sym c.of.ensures)
+    ∙ subst (λ e. IsTakenEnd e (run program_plan (lexemes_left c.of.result))) c.in-Err-Fault.field-0-is c.in-Err-Fault.ensures in
+    let within = left-within (lexemes_of c.args.bytes.now c.args.tokens.now) (lexemes_left c.in-Err-Fault.left) refused in
+    omega (arith, within, length-map c.args.tokens.now (lexeme_of c.args.bytes.now), length-map c.in-Err-Fault.left.list.now (lexeme_of c.in-Err-Fault.left.text.now))
+
+pub returns-in-Ok-clause-found : goal.returns-in-Ok-clause-found
+returns-in-Ok-clause-found c =
+    let ends_once = c.tokens_end_once.ensures c.args.bytes.now c.args.tokens.now c.requires.lexed in
+    read-lexed c.args.bytes.now c.args.tokens.now ends_once (tree_of c.in-Ok.program) _ (ap (run program_plan) (sym c.of.ensures) ∙ c.in-Ok.ensures)
+
+pub returns-in-Ok-clause-spellable : goal.returns-in-Ok-clause-spellable
+returns-in-Ok-clause-spellable c =
+    let ends_once = c.tokens_end_once.ensures c.args.bytes.now c.args.tokens.now c.requires.lexed in
+    lexed-spellable c.args.bytes.now c.args.tokens.now ends_once (tree_of c.in-Ok.program) (read-lexed c.args.bytes.now c.args.tokens.now ends_once (tree_of c.in-Ok.program) _ (ap (run program_plan) (sym c.of.ensures) ∙ c.in-Ok.ensures))
+
+pub returns-in-Ok-clause-printed : goal.returns-in-Ok-clause-printed
+returns-in-Ok-clause-printed c =
+    let ends_once = c.tokens_end_once.ensures c.args.bytes.now c.args.tokens.now c.requires.lexed in
+    let tree = read-lexed c.args.bytes.now c.args.tokens.now ends_once (tree_of c.in-Ok.program) _ (ap (run program_plan) (sym c.of.ensures) ∙ c.in-Ok.ensures) in
+    c.canonical_text_reads_back.ensures (tree_of c.in-Ok.program) tree.grammatical (lexed-spellable c.args.bytes.now c.args.tokens.now ends_once (tree_of c.in-Ok.program) tree)
+
+pub returns-in-Ok-clause-only : goal.returns-in-Ok-clause-only
+returns-in-Ok-clause-only c = λ tree h.
+    let ends_once = c.tokens_end_once.ensures c.args.bytes.now c.args.tokens.now c.requires.lexed in
+    ProgramReads.one_tree (lexemes_of c.args.bytes.now c.args.tokens.now) (tree_of c.in-Ok.program) tree (read-lexed c.args.bytes.now c.args.tokens.now ends_once (tree_of c.in-Ok.program) _ (ap (run program_plan) (sym c.of.ensures) ∙ c.in-Ok.ensures)) h
+
+pub returns-in-Err-Fault-clause-only : goal.returns-in-Err-Fault-clause-only
+returns-in-Err-Fault-clause-only c = λ tree h.
+    let tokens = lexemes_of c.args.bytes.now c.args.tokens.now in
+    let refused : run program_plan tokens ≡ Err (lexemes_left c.in-Err-Fault.left) =
+    ap (run program_plan) (sym c.of.ensures)
+    ∙ subst (λ e. IsTakenEnd e (run program_plan (lexemes_left c.of.result))) c.in-Err-Fault.field-0-is c.in-Err-Fault.ensures in
+    not-both tokens tree (lexemes_left c.in-Err-Fault.left) h refused
+
+pub returns-in-Err-Fault-clause-fault : goal.returns-in-Err-Fault-clause-fault
+returns-in-Err-Fault-clause-fault c =
+    let tokens = lexemes_of c.args.bytes.now c.args.tokens.now in
+    let ended = lexed-ended c.args.bytes.now c.args.tokens.now (c.tokens_end_once.ensures c.args.bytes.now c.args.tokens.now c.requires.lexed) in
+    let refused : run program_plan tokens ≡ Err (lexemes_left c.in-Err-Fault.left) =
+    ap (run program_plan) (sym c.of.ensures)
+    ∙ subst (λ e. IsTakenEnd e (run program_plan (lexemes_left c.of.result))) c.in-Err-Fault.field-0-is c.in-Err-Fault.ensures in
+    let first = fault-there tokens ended (lexemes_left c.in-Err-Fault.left) refused in
+    let place : length tokens - length (lexemes_left c.in-Err-Fault.left) ≡ length c.args.tokens.now - length c.in-Err-Fault.left.list.now =
+    omega (arith, length-map c.args.tokens.now (lexeme_of c.args.bytes.now), length-map c.in-Err-Fault.left.list.now (lexeme_of c.in-Err-Fault.left.text.now)) in
+    subst (IsFirstFault tokens) place first
+
+pub overflow_cast-result : goal.overflow_cast-result
+overflow_cast-result c =
+    let few : length c.args.tokens.now ≤ 2 * length c.args.bytes.now + 1 = c.two_tokens_a_byte.ensures c.args.bytes.now c.args.tokens.now c.requires.lexed in
+    let short : length c.args.bytes.now < 2 ^ 31 = c.requires.short in
+    omega (arith, few, short)

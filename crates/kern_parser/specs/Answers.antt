@@ -1,0 +1,16 @@
+-- What the parser's answers say.
+use Rattle.std.specs.Prelude.{List}
+use Rattle.kern_lexer.specs.Symbols.{Lexeme}
+use Rattle.kern_grammar.specs.Accepted.{IsFirstFault}
+use Rattle.kern_parser.specs.declared.parsing.SyntaxEnd.{SyntaxEnd}
+use Rattle.kern_parser.specs.declared.parsing.SyntaxEnd.TheVariants as E
+
+-- an end is the first fault, or want of memory
+abbrev pub EndsRightly : List Lexeme → SyntaxEnd → Type 0
+EndsRightly tokens (E.Fault place) = IsFirstFault tokens place
+EndsRightly tokens E.Memory = Unit {0}
+
+-- an end is want of memory
+abbrev pub IsMemory : SyntaxEnd → Type 0
+IsMemory (E.Fault place) = ⊥
+IsMemory E.Memory = Unit {0}

@@ -1,0 +1,5 @@
+pub mod Answers
+pub mod BlockSteps
+pub mod FunctionSteps
+pub mod Headers
+pub mod LineSteps
