@@ -1,3 +1,5 @@
+# Cooling light for 2 ms, a repump pulse, a shelving pulse and a detection window of 400 us, one
+# after another with gaps, 125 us after the start.
 def main():
     at_mu(125000)
     ttl0.on()

@@ -3,9 +3,8 @@ use Rattle.std.proofs.Common.{◌≡◌, ℕ, ◌<◌, List, [], ◌∷◌, refl
 use Rattle.std.specs.Prelude.{suc, zero, codes, bytes_eq}
 use Rattle.std.specs.List.{find, range_with_len}
 use Rattle.std.proofs.lemmas.Slice.Eq.{bytes_eq-Decides}
-use Rattle.rtio_types.specs.Board.{name_of_channel, channel_of_name, digits_of}
+use Rattle.rtio_types.specs.Board.{name_of_channel, channel_of_name}
 use Rattle.kern_types.specs.Calls.{on, off, method_named}
-use Rattle.artiq_sim.specs.Straight.{lacks}
 
 -- a fact of each of them
 abbrev pub AtEach : (ℕ → Type 0) → Type 0
@@ -29,14 +28,6 @@ at_channel P each (suc (suc (suc (suc (suc (suc (suc (suc (suc (suc (suc (suc (s
 at_channel P each (suc (suc (suc (suc (suc (suc (suc (suc (suc (suc (suc (suc (suc (suc zero)))))))))))))) below = each.14
 at_channel P each (suc (suc (suc (suc (suc (suc (suc (suc (suc (suc (suc (suc (suc (suc (suc zero))))))))))))))) below = each.15
 at_channel P each (suc (suc (suc (suc (suc (suc (suc (suc (suc (suc (suc (suc (suc (suc (suc (suc c)))))))))))))))) below = absurd (omega (arith, below))
-
--- no dot stands in a name
-pub name_lacks_dot : (c : ℕ) → c < 16 → IsTrue (lacks 46 (name_of_channel c))
-name_lacks_dot = at_channel (λ c. IsTrue (lacks 46 (name_of_channel c))) (refl, refl, refl, refl, refl, refl, refl, refl, refl, refl, refl, refl, refl, refl, refl, refl)
-
--- a name begins with a t
-pub name_begins : (c : ℕ) → c < 16 → name_of_channel c ≡ 116 ∷ (116 ∷ (108 ∷ digits_of c))
-name_begins = at_channel (λ c. name_of_channel c ≡ 116 ∷ (116 ∷ (108 ∷ digits_of c))) (refl, refl, refl, refl, refl, refl, refl, refl, refl, refl, refl, refl, refl, refl, refl, refl)
 
 -- a name is that of its channel
 pub channel_of_its_name : (c : ℕ) → c < 16 → channel_of_name (name_of_channel c) ≡ Some c

@@ -1,16 +1,16 @@
 -- What a told source gave is determined by what it held before and after.
 use Rattle.std.proofs.Common.{inl, inr, ◌⊎◌, ◌≡◌, ℕ, ◌+◌, List, [], ◌++◌, refl, sym, ◌∙◌, ap, subst, length, length-append, append-nil, arith}
-use Rattle.std.specs.Prelude.{suc, Some, None, ◌≤◌, Vec, Bool, true, false}
+use Rattle.std.specs.Prelude.{if◌then◌else◌, suc, Some, None, ◌≤◌, Vec, Bool}
 use Rattle.std.specs.declared.alloc.Global.{Global}
 use Rattle.lab_io.specs.declared.source.ReadEnd.{ReadEnd}
 use Rattle.lab_io.specs.declared.source.ReadEnd.TheVariants as End
 use Rattle.lab_io.specs.Reading.{IsCountAt}
 use Rattle.artiq_sim.specs.declared.answer.Answer.{Answer}
-use Rattle.artiq_sim.specs.declared.answer.Answer.TheVariants.{Report, Form}
+use Rattle.artiq_sim.specs.declared.answer.Answer.TheVariants.{Report, Refused}
 use Rattle.std.specs.declared.option.Option.{Option}
 use Rattle.std.specs.Io.KnownBytes.{Consumes, IsAtEnd}
 use Rattle.artiq_sim.specs.Answers.{max_bytes, TakesTooMany, IsAnswerTo, ReportsText}
-use Rattle.artiq_sim.specs.Straight.{IsStraightText, IsNoStraightText}
+use Rattle.artiq_sim.specs.Texts.{IsStraightText, IsRefused}
 use Rattle.kern_syntax.specs.Tree.{ProgramTree}
 
 -- two pieces that lead from and to the same bytes are of one length
@@ -67,29 +67,32 @@ held_too_many old new left end e told some few =
     let within = taken_within old new left some.0 told some.1 in
     omega (arith, count, within, few)
 
--- the answer that a text isn't straight
-pub form_answer : (t items : List ℕ) (a : Answer) → t ≡ items → a ≡ Form → IsAnswerTo t a → IsNoStraightText items
-form_answer t items a e f h = subst (λ x. IsAnswerTo items x) f (subst (λ x. IsAnswerTo x a) e h)
-
-reported : (items : List ℕ) (bytes : Vec ℕ Global) (raised : Bool) → IsAnswerTo items (Report bytes raised) → (status : ℕ) × ReportsText items bytes.items status
-reported items bytes true h = (6, h)
-reported items bytes false h = (0, h)
+-- the answer that refuses a text
+pub refused_answer : (t items : List ℕ) (a : Answer) (line : Vec ℕ Global) → t ≡ items → a ≡ Refused line → IsAnswerTo t a → IsRefused items line.items × ((program : ProgramTree) → IsStraightText items program → ⊥)
+refused_answer t items a line e f h = subst (λ x. IsAnswerTo items x) f (subst (λ x. IsAnswerTo x a) e h)
 
 -- the answer that reports a run
 pub report_answer : (t items : List ℕ) (a : Answer) (bytes : Vec ℕ Global) (raised : Bool) → t ≡ items → a ≡ Report bytes raised → IsAnswerTo t a
-    → (status : ℕ) × ReportsText items bytes.items status
-report_answer t items a bytes raised e f h = reported items bytes raised (subst (λ x. IsAnswerTo items x) f (subst (λ x. IsAnswerTo x a) e h))
+    → ReportsText items bytes.items (if raised then 6 else 0) × ((told : List ℕ) → IsRefused items told → ⊥)
+report_answer t items a bytes raised e f h = subst (λ x. IsAnswerTo items x) f (subst (λ x. IsAnswerTo x a) e h)
 
--- the whole text is straight or not
-pub not_both : (old new : Option (List ℕ)) (left xs : List ℕ) (program : ProgramTree) → old ≡ Some left → Consumes old new xs → IsAtEnd new
-    → IsNoStraightText xs → IsStraightText left program → ⊥
-not_both old new left xs program told taken end none straight =
+-- an answer that isn't 4 is the status
+pub not_four : (result status : ℕ) → (result ≡ status) ⊎ (result ≡ 4) → (result ≡ 0) ⊎ (result ≡ 6) → result ≡ status
+not_four result status (inl e) good = e
+not_four result status (inr four) (inl zero_status) = absurd (omega (arith, four, zero_status))
+not_four result status (inr four) (inr six) = absurd (omega (arith, four, six))
+
+-- a text that is refused isn't straight
+pub not_straight_too : (old new : Option (List ℕ)) (left xs : List ℕ) (program : ProgramTree) → old ≡ Some left → Consumes old new xs → IsAtEnd new
+    → ((p : ProgramTree) → IsStraightText xs p → ⊥) → IsStraightText left program → ⊥
+not_straight_too old new left xs program told taken end none straight =
     none program (subst (λ t. IsStraightText t program) (sym (all_left old new left xs told taken end)) straight)
 
-pub not_both' : (old new : Option (List ℕ)) (left xs written : List ℕ) (status : ℕ) → old ≡ Some left → Consumes old new xs → IsAtEnd new
-    → ReportsText xs written status → IsNoStraightText left → ⊥
-not_both' old new left xs written status told taken end reports none =
-    none reports.program (subst (λ t. IsStraightText t reports.program) (all_left old new left xs told taken end) reports.straight)
+-- a text that is reported isn't refused
+pub not_refused_too : (old new : Option (List ℕ)) (left xs line : List ℕ) → old ≡ Some left → Consumes old new xs → IsAtEnd new
+    → ((l : List ℕ) → IsRefused xs l → ⊥) → IsRefused left line → ⊥
+not_refused_too old new left xs line told taken end none refused =
+    none line (subst (λ t. IsRefused t line) (sym (all_left old new left xs told taken end)) refused)
 
 -- a text that was read whole isn't longer than the maximum
 pub not_longer : (old new : Option (List ℕ)) (left xs : List ℕ) → old ≡ Some left → Consumes old new xs → IsAtEnd new → length xs ≤ max_bytes → suc max_bytes ≤ length left → ⊥

@@ -1,12 +1,9 @@
-mod Known
-mod Cuts
 mod Channels
-mod OneTree
-mod FirstLines
-mod StepTexts
-mod LinesRead
 pub mod Playing
 mod Meant
 mod Plays
 mod RunLoop
-mod Recognised
+mod StraightTrees
+mod Checking
+mod Answering
+mod Known

@@ -1,5 +1,5 @@
 -- The meaning of a straight program is the play of its steps.
-use Rattle.std.proofs.Common.{◌≡◌, ℕ, ◌+◌, ◌-◌, ◌^◌, ◌<◌, ◌≤◌, List, [], ◌∷◌, ◌++◌, length, Bool, true, false, Some, None, refl, sym, ap, ◌∙◌, arith, append-nil, append_assoc, nat_lt}
+use Rattle.std.proofs.Common.{◌≡◌, ℕ, ◌+◌, ◌-◌, ◌^◌, ◌<◌, ◌≤◌, List, [], ◌∷◌, ◌++◌, length, Bool, true, false, Some, None, refl, sym, ap, subst, ◌∙◌, arith, append-nil, append_assoc, nat_lt}
 use Rattle.std.specs.Prelude.{ℤ, pos, neg_ℤ, zero, suc, map, ⊤, codes, if◌then◌else◌, unsigned_abs}
 use Rattle.std.specs.declared.option.Option.{Option}
 use Rattle.std.specs.Int.{w32, w64, int_wrap}
@@ -15,7 +15,7 @@ use Rattle.rtio_types.specs.declared.request.Value.{Value}
 use Rattle.rtio_types.specs.Board.{name_of_channel}
 use Rattle.rtio_types.specs.Time.{later}
 use Rattle.kern_syntax.specs.declared.expression.UnaryOperator.TheVariants.{Negate}
-use Rattle.kern_syntax.specs.Tree.{Bytes, Expression, integer, unary, method, no_more, value_then, Statement, evaluate, Block, done, line_then, FunctionTree}
+use Rattle.kern_syntax.specs.Tree.{Bytes, Expression, integer, unary, method, no_more, value_then, Statement, evaluate, Block, done, line_then, FunctionTree, ProgramTree}
 use Rattle.kern_types.specs.declared.types.ValueType.TheVariants.{Int32, Int64}
 use Rattle.kern_types.specs.Types.{Scope, width_of, names_of}
 use Rattle.kern_types.specs.Calls.{Operation, builtin_named}
@@ -27,7 +27,7 @@ use Rattle.artiq_sim.specs.declared.step.Literal.{Literal}
 use Rattle.artiq_sim.specs.declared.step.Step.{Step}
 use Rattle.artiq_sim.specs.declared.step.Step.TheVariants.{At, Delay, On, Off}
 use Rattle.artiq_sim.specs.Runs.{budget, meant, outcome_of}
-use Rattle.artiq_sim.specs.Steps.{amount_of, literal_tree, call_of, lines_then, program_of}
+use Rattle.artiq_sim.specs.Steps.{amount_of, literal_tree, call_of, AreSteps, HasSteps}
 use Rattle.artiq_sim.proofs.Channels.{on_of_name, off_of_name}
 use Rattle.artiq_sim.proofs.Playing.{Play, play, on_output}
 
@@ -122,26 +122,38 @@ module _ (scope : Scope) (callee : Callee) where
   output_then st number body values cursor event false after spare extra asked asks rest =
       ap (λ c. go_on c (λ a. block scope callee body)) (asks.refused values spare extra asked)
 
-  -- the lines of steps do as their play says
-  steps_play : (accepts : Event → Bool) (steps : List Step) (number : ℕ) (values : List (Bytes × Value)) (cursor : ℤ) (spare : ℕ) (extra : List Reply) (asked : List Request) → DoesAs (lines_then number steps done) values cursor (play accepts cursor steps) spare extra asked
-  steps_play accepts [] number values cursor spare extra asked =
-      ap (λ qs. normal tt (playing values cursor spare extra qs)) (sym (append-nil asked))
-  steps_play accepts (At literal ∷ steps) number values cursor spare extra asked =
+  -- a step, and then a body that does as the play of what follows
+  step_then : (accepts : Event → Bool) (step : Step) (number : ℕ) (body : Block) (steps : List Step) (values : List (Bytes × Value)) (cursor : ℤ) (spare : ℕ) (extra : List Reply) (asked : List Request)
+      → ((next : ℤ) (before : List Request) → DoesAs body values next (play accepts next steps) spare extra before)
+      → DoesAs (line_then number (evaluate (call_of step)) body) values cursor (play accepts cursor (step ∷ steps)) spare extra asked
+  step_then accepts (At literal) number body steps values cursor spare extra asked rest =
       let p = play accepts (amount_of literal) steps in
-      ap (λ c. go_on c (λ a. block scope callee (lines_then (number + 1) steps done))) (at_sets literal (playing values cursor (units_for p.asked spare) (p.replies ++ extra) asked))
-      ∙ steps_play accepts steps (number + 1) values (amount_of literal) spare extra asked
-  steps_play accepts (Delay literal ∷ steps) number values cursor spare extra asked =
+      ap (λ c. go_on c (λ a. block scope callee body)) (at_sets literal (playing values cursor (units_for p.asked spare) (p.replies ++ extra) asked))
+      ∙ rest (amount_of literal) asked
+  step_then accepts (Delay literal) number body steps values cursor spare extra asked rest =
       let p = play accepts (later cursor (amount_of literal)) steps in
-      ap (λ c. go_on c (λ a. block scope callee (lines_then (number + 1) steps done))) (delay_moves literal (playing values cursor (units_for p.asked spare) (p.replies ++ extra) asked))
-      ∙ steps_play accepts steps (number + 1) values (later cursor (amount_of literal)) spare extra asked
-  steps_play accepts (On channel ∷ steps) number values cursor spare extra asked =
-      output_then (evaluate (call_of (On channel))) number (lines_then (number + 1) steps done) values cursor (record { channel = channel.number; address = 0; value = 1; stamp = cursor }) (accepts (record { channel = channel.number; address = 0; value = 1; stamp = cursor })) (play accepts cursor steps) spare extra asked
+      ap (λ c. go_on c (λ a. block scope callee body)) (delay_moves literal (playing values cursor (units_for p.asked spare) (p.replies ++ extra) asked))
+      ∙ rest (later cursor (amount_of literal)) asked
+  step_then accepts (On channel) number body steps values cursor spare extra asked rest =
+      output_then (evaluate (call_of (On channel))) number body values cursor (record { channel = channel.number; address = 0; value = 1; stamp = cursor }) (accepts (record { channel = channel.number; address = 0; value = 1; stamp = cursor })) (play accepts cursor steps) spare extra asked
       (on_asks channel.number channel.on_board cursor)
-      (λ before. steps_play accepts steps (number + 1) values cursor spare extra before)
-  steps_play accepts (Off channel ∷ steps) number values cursor spare extra asked =
-      output_then (evaluate (call_of (Off channel))) number (lines_then (number + 1) steps done) values cursor (record { channel = channel.number; address = 0; value = 0; stamp = cursor }) (accepts (record { channel = channel.number; address = 0; value = 0; stamp = cursor })) (play accepts cursor steps) spare extra asked
+      (λ before. rest cursor before)
+  step_then accepts (Off channel) number body steps values cursor spare extra asked rest =
+      output_then (evaluate (call_of (Off channel))) number body values cursor (record { channel = channel.number; address = 0; value = 0; stamp = cursor }) (accepts (record { channel = channel.number; address = 0; value = 0; stamp = cursor })) (play accepts cursor steps) spare extra asked
       (off_asks channel.number channel.on_board cursor)
-      (λ before. steps_play accepts steps (number + 1) values cursor spare extra before)
+      (λ before. rest cursor before)
+
+  -- the body of steps does as their play says
+  steps_play : (accepts : Event → Bool) (body : Block) (steps : List Step) → AreSteps body steps → (values : List (Bytes × Value)) (cursor : ℤ) (spare : ℕ) (extra : List Reply) (asked : List Request) → DoesAs body values cursor (play accepts cursor steps) spare extra asked
+  steps_play accepts done [] are values cursor spare extra asked =
+      ap (λ qs. normal tt (playing values cursor spare extra qs)) (sym (append-nil asked))
+  steps_play accepts done (step ∷ steps) are values cursor spare extra asked = absurd are
+  steps_play accepts (line_then number st body) [] are values cursor spare extra asked = absurd are
+  steps_play accepts (line_then number st body) (step ∷ steps) are values cursor spare extra asked =
+      subst
+      (λ (x : Statement). DoesAs (line_then number x body) values cursor (play accepts cursor (step ∷ steps)) spare extra asked)
+      (sym are.0)
+      (step_then accepts step number body steps values cursor spare extra asked (λ next before. steps_play accepts body steps are.1 values next spare extra before))
 
 units_for-sum : (events : List Event) (spare : ℕ) → units_for events spare ≡ length events + spare
 units_for-sum [] spare = omega arith
@@ -155,17 +167,25 @@ ended_means : (values : List (Bytes × Value)) (raised : Option Exc) (cursor : �
 ended_means values None cursor spare extra asked = refl
 ended_means values (Some x) cursor spare extra asked = refl
 
--- the meaning of the program is the play of its steps, as long as the units last
-pub meant_play : (accepts : Event → Bool) (steps : List Step) (extra : List Reply) → length (play accepts (pos 0) steps).asked ≤ budget
-    → meant (program_of steps) ((play accepts (pos 0) steps).replies ++ extra) ≡ meaning_of_play (play accepts (pos 0) steps) (budget - length (play accepts (pos 0) steps).asked)
-meant_play accepts steps extra few =
+-- the meaning of a function of steps is their play, as long as the units last
+function_play : (accepts : Event → Bool) (f : FunctionTree) (steps : List Step) → AreSteps f.body steps → (extra : List Reply) → length (play accepts (pos 0) steps).asked ≤ budget
+    → meant (f ∷ []) ((play accepts (pos 0) steps).replies ++ extra) ≡ meaning_of_play (play accepts (pos 0) steps) (budget - length (play accepts (pos 0) steps).asked)
+function_play accepts f steps are extra few =
     let p = play accepts (pos 0) steps in
     let spare : ℕ = budget - length (play accepts (pos 0) steps).asked in
-    let f : FunctionTree = record { line = 1; name = codes "main"; parameters = []; result = None; body = lines_then 2 steps done } in
-    let scope : Scope = record { program = program_of steps; names = names_of (program_of steps) f } in
-    let callee : Callee = function_call (program_of steps) call_room in
-    let values : List (Bytes × Value) = initial_values (names_of (program_of steps) f) [] in
+    let scope : Scope = record { program = f ∷ []; names = names_of (f ∷ []) f } in
+    let callee : Callee = function_call (f ∷ []) call_room in
+    let values : List (Bytes × Value) = initial_values (names_of (f ∷ []) f) [] in
     let units : budget ≡ units_for (play accepts (pos 0) steps).asked spare = omega (arith, units_for-sum (play accepts (pos 0) steps).asked spare, few) in
-    ap (λ u. meaning_of (leave_function [] (block scope callee (lines_then 2 steps done) (playing values (pos 0) u (p.replies ++ extra) [])))) units
-    ∙ ap (λ c. meaning_of (leave_function [] c)) (steps_play scope callee accepts steps 2 values (pos 0) spare extra [])
+    ap (λ u. meaning_of (leave_function [] (block scope callee f.body (playing values (pos 0) u (p.replies ++ extra) [])))) units
+    ∙ ap (λ c. meaning_of (leave_function [] c)) (steps_play scope callee accepts f.body steps are values (pos 0) spare extra [])
     ∙ ended_means values p.raised p.cursor spare extra (map Q.Out p.asked)
+
+-- the meaning of a program of steps is their play
+pub meant_play : (accepts : Event → Bool) (program : ProgramTree) (steps : List Step) → HasSteps program steps → (extra : List Reply) → length (play accepts (pos 0) steps).asked ≤ budget
+    → meant program ((play accepts (pos 0) steps).replies ++ extra) ≡ meaning_of_play (play accepts (pos 0) steps) (budget - length (play accepts (pos 0) steps).asked)
+meant_play accepts program steps has extra few =
+    subst
+    (λ (q : ProgramTree). meant q ((play accepts (pos 0) steps).replies ++ extra) ≡ meaning_of_play (play accepts (pos 0) steps) (budget - length (play accepts (pos 0) steps).asked))
+    (sym has.alone)
+    (function_play accepts has.function steps has.are extra few)

@@ -1,6 +1,6 @@
 -- What a play is made of.
 use Rattle.std.proofs.Common.{◌≡◌, ℕ, ◌+◌, ◌-◌, ◌≤◌, List, [], ◌∷◌, ◌++◌, length, replicate, Bool, true, false, Some, None, IsTrue, refl, sym, ap, subst, ◌∙◌, arith, append-nil}
-use Rattle.std.specs.Prelude.{ℤ, pos, ◌*ℤ◌, suc, map, int_lt, int_le, option_to_list}
+use Rattle.std.specs.Prelude.{codes, ℤ, pos, ◌*ℤ◌, suc, map, int_lt, int_le, option_to_list}
 use Rattle.std.specs.declared.option.Option.{Option}
 use Rattle.std.proofs.lemmas.Int.{ints}
 use Rattle.std.proofs.lemmas.List.{replicate-append-replicate}
@@ -11,12 +11,12 @@ use Rattle.rtio_types.specs.declared.outcome.Exc.TheVariants as X
 use Rattle.rtio_types.specs.declared.request.Request.{Request}
 use Rattle.rtio_types.specs.declared.request.Request.TheVariants as Q
 use Rattle.rtio_types.specs.declared.request.Reply.TheVariants as R
-use Rattle.kern_syntax.specs.Tree.{done}
+use Rattle.kern_syntax.specs.Tree.{Block, done, line_then, ProgramTree}
 use Rattle.timeline_sem.specs.Programs.{Meaning}
 use Rattle.artiq_sim.specs.declared.step.Step.{Step}
-use Rattle.artiq_sim.specs.Main.{statement_count}
+use Rattle.artiq_sim.specs.Main.{main_of, statement_count}
 use Rattle.artiq_sim.specs.Runs.{budget, meant, events_asked, events_planned, cycles_rise, AreRight, events_done, last_cycle, OnlyLastIsRefused, Run, IsRun}
-use Rattle.artiq_sim.specs.Steps.{moved, output_of, outputs_from, lines_then, program_of}
+use Rattle.artiq_sim.specs.Steps.{moved, output_of, outputs_from, AreSteps, HasSteps}
 use Rattle.artiq_sim.proofs.Playing.{Play, on_output, on_step, play}
 use Rattle.artiq_sim.proofs.Meant.{meaning_of_play, meant_play}
 
@@ -62,9 +62,11 @@ asked_few accepts cursor (step ∷ steps) = asked_step accepts (output_of step c
 
 -- ---- the outputs that are planned
 
-pub count_of_lines : (number : ℕ) (steps : List Step) → statement_count (lines_then number steps done) ≡ length steps
-count_of_lines number [] = refl
-count_of_lines number (step ∷ steps) = ap suc (count_of_lines (number + 1) steps)
+pub count_of_steps : (body : Block) (steps : List Step) → AreSteps body steps → statement_count body ≡ length steps
+count_of_steps done [] are = refl
+count_of_steps done (step ∷ steps) are = absurd are
+count_of_steps (line_then number st body) [] are = absurd are
+count_of_steps (line_then number st body) (step ∷ steps) are = ap suc (count_of_steps body steps are.1)
 
 dones_split : (n m : ℕ) → replicate (n + m) R.Done ≡ replicate n R.Done ++ replicate m R.Done
 dones_split n m = sym (replicate-append-replicate n m R.Done)
@@ -74,16 +76,16 @@ asked_events [] = refl
 asked_events (event ∷ events) = ap (λ es. event ∷ es) (asked_events events)
 
 -- the outputs of the meaning are those of a running cursor
-pub planned : (steps : List Step) → length steps ≤ budget → events_planned (lines_then 2 steps done) ≡ outputs_from (pos 0) steps
-planned steps few =
-    let p = play always (pos 0) steps in
+pub planned : (body : Block) (steps : List Step) → AreSteps body steps → length steps ≤ budget → events_planned body ≡ outputs_from (pos 0) steps
+planned body steps are few =
+    let has : HasSteps (main_of body) steps = record { function = record { line = 1; name = codes "main"; parameters = []; result = None; body = body }; alone = refl; are = are } in
     let fewer : length (play always (pos 0) steps).asked ≤ length steps = asked_few always (pos 0) steps in
     let spare : ℕ = length steps - length (play always (pos 0) steps).asked in
-    let count : statement_count (lines_then 2 steps done) ≡ length (play always (pos 0) steps).asked + spare = count_of_lines 2 steps ∙ omega (arith, fewer) in
-    let replies : replicate (statement_count (lines_then 2 steps done)) R.Done ≡ (play always (pos 0) steps).replies ++ replicate spare R.Done =
+    let count : statement_count body ≡ length (play always (pos 0) steps).asked + spare = count_of_steps body steps are ∙ omega (arith, fewer) in
+    let replies : replicate (statement_count body) R.Done ≡ (play always (pos 0) steps).replies ++ replicate spare R.Done =
     ap (λ n. replicate n R.Done) count ∙ dones_split (length (play always (pos 0) steps).asked) spare ∙ ap (λ rs. rs ++ replicate spare R.Done) (sym (planned_dones (pos 0) steps)) in
-    let meaning : meant (program_of steps) ((play always (pos 0) steps).replies ++ replicate spare R.Done) ≡ meaning_of_play (play always (pos 0) steps) (budget - length (play always (pos 0) steps).asked) = meant_play always steps (replicate spare R.Done) (omega (arith, fewer, few)) in
-    ap (λ rs. events_asked (meant (program_of steps) rs).requests) replies
+    let meaning : meant (main_of body) ((play always (pos 0) steps).replies ++ replicate spare R.Done) ≡ meaning_of_play (play always (pos 0) steps) (budget - length (play always (pos 0) steps).asked) = meant_play always (main_of body) steps has (replicate spare R.Done) (omega (arith, fewer, few)) in
+    ap (λ rs. events_asked (meant (main_of body) rs).requests) replies
     ∙ ap (λ (m : Meaning). events_asked m.requests) meaning
     ∙ asked_events (play always (pos 0) steps).asked
     ∙ planned_asked (pos 0) steps
@@ -160,14 +162,14 @@ abbrev pub run_of_play : Play → Run
 run_of_play p = record { events = p.accepted; raised = p.raised; cursor = p.cursor; counter = pos 8 *ℤ last_cycle p.accepted }
 
 -- it is the run of the program
-pub play_is_run : (steps : List Step) → length steps ≤ budget → IsTrue (cycles_rise (outputs_from (pos 0) steps)) → IsRun (program_of steps) (run_of_play (play in_time (pos 0) steps))
-play_is_run steps few rising =
+pub play_is_run : (program : ProgramTree) (steps : List Step) → HasSteps program steps → length steps ≤ budget → IsTrue (cycles_rise (outputs_from (pos 0) steps)) → IsRun program (run_of_play (play in_time (pos 0) steps))
+play_is_run program steps has few rising =
     let p = play in_time (pos 0) steps in
     let fewer : length (play in_time (pos 0) steps).asked ≤ length steps = asked_few in_time (pos 0) steps in
     let spare : ℕ = budget - length (play in_time (pos 0) steps).asked in
-    let meaning : meant (program_of steps) ((play in_time (pos 0) steps).replies ++ []) ≡ meaning_of_play (play in_time (pos 0) steps) spare = meant_play in_time steps [] (omega (arith, fewer, few)) in
-    let e : meant (program_of steps) (play in_time (pos 0) steps).replies ≡ meaning_of_play (play in_time (pos 0) steps) spare =
-    ap (meant (program_of steps)) (sym (append-nil (play in_time (pos 0) steps).replies)) ∙ meaning in
+    let meaning : meant program ((play in_time (pos 0) steps).replies ++ []) ≡ meaning_of_play (play in_time (pos 0) steps) spare = meant_play in_time program steps has [] (omega (arith, fewer, few)) in
+    let e : meant program (play in_time (pos 0) steps).replies ≡ meaning_of_play (play in_time (pos 0) steps) spare =
+    ap (meant program) (sym (append-nil (play in_time (pos 0) steps).replies)) ∙ meaning in
     let front = accepted_front (pos 0) steps in
     record {
       replies = p.replies;

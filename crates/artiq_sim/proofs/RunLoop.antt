@@ -11,9 +11,10 @@ use Rattle.rtio_types.specs.Time.{coarse_of}
 use Rattle.rtio_types.specs.declared.event.Event.{Event}
 use Rattle.rtio_types.specs.declared.outcome.Exc.{Exc}
 use Rattle.rtio_types.specs.declared.outcome.Exc.TheVariants.{RTIOUnderflow}
+use Rattle.kern_syntax.specs.Tree.{ProgramTree}
 use Rattle.artiq_sim.specs.declared.step.Step.{Step}
 use Rattle.artiq_sim.specs.Runs.{budget, cycles_rise, last_cycle, Run, IsRun}
-use Rattle.artiq_sim.specs.Steps.{moved, output_of, outputs_from, program_of}
+use Rattle.artiq_sim.specs.Steps.{moved, output_of, outputs_from, HasSteps}
 use Rattle.artiq_sim.proofs.Playing.{Play, accepted_then, refused_at, ended_at, on_output, on_step, play}
 use Rattle.artiq_sim.proofs.Plays.{in_time, run_of_play, play_is_run}
 
@@ -64,15 +65,15 @@ play_silent cursor step left rest is output =
 
 -- ---- a run that ended
 
-pub refused_run : (steps : List Step) (events : List Event) (cursor : ℤ) (event : Event) (run : Run) → length steps ≤ budget → IsTrue (cycles_rise (outputs_from (pos 0) steps))
-    → GoesOn events (refused_at event cursor) (play in_time (pos 0) steps) → run ≡ left_by events (Some RTIOUnderflow) cursor → IsRun (program_of steps) run
-refused_run steps events cursor event run few rising h e =
-    subst (IsRun (program_of steps)) (sym (e ∙ goes_on_end events (refused_at event cursor) (play in_time (pos 0) steps) refl h)) (play_is_run steps few rising)
+pub refused_run : (program : ProgramTree) (steps : List Step) → HasSteps program steps → (events : List Event) (cursor : ℤ) (event : Event) (run : Run) → length steps ≤ budget → IsTrue (cycles_rise (outputs_from (pos 0) steps))
+    → GoesOn events (refused_at event cursor) (play in_time (pos 0) steps) → run ≡ left_by events (Some RTIOUnderflow) cursor → IsRun program run
+refused_run program steps has events cursor event run few rising h e =
+    subst (IsRun program) (sym (e ∙ goes_on_end events (refused_at event cursor) (play in_time (pos 0) steps) refl h)) (play_is_run program steps has few rising)
 
-pub ended_run : (steps : List Step) (events : List Event) (cursor : ℤ) (run : Run) → length steps ≤ budget → IsTrue (cycles_rise (outputs_from (pos 0) steps))
-    → GoesOn events (ended_at cursor) (play in_time (pos 0) steps) → run ≡ left_by events None cursor → IsRun (program_of steps) run
-ended_run steps events cursor run few rising h e =
-    subst (IsRun (program_of steps)) (sym (e ∙ goes_on_end events (ended_at cursor) (play in_time (pos 0) steps) refl h)) (play_is_run steps few rising)
+pub ended_run : (program : ProgramTree) (steps : List Step) → HasSteps program steps → (events : List Event) (cursor : ℤ) (run : Run) → length steps ≤ budget → IsTrue (cycles_rise (outputs_from (pos 0) steps))
+    → GoesOn events (ended_at cursor) (play in_time (pos 0) steps) → run ≡ left_by events None cursor → IsRun program run
+ended_run program steps has events cursor run few rising h e =
+    subst (IsRun program) (sym (e ∙ goes_on_end events (ended_at cursor) (play in_time (pos 0) steps) refl h)) (play_is_run program steps has few rising)
 
 -- ---- the loop's steps
 
@@ -91,20 +92,20 @@ step_silent steps i cursor next step events all below is output moves h =
     rw moves (subst (λ p. GoesOn events p all) here h)
 
 -- an output that is refused
-pub step_refused : (steps : List Step) (i : ℕ) (cursor : ℤ) (step : Step) (event : Event) (events : List Event) (run : Run) → i < length steps → step ≡ get_or steps i step → Some event ≡ output_of step cursor → in_time event ≡ false
+pub step_refused : (program : ProgramTree) (steps : List Step) → HasSteps program steps → (i : ℕ) (cursor : ℤ) (step : Step) (event : Event) (events : List Event) (run : Run) → i < length steps → step ≡ get_or steps i step → Some event ≡ output_of step cursor → in_time event ≡ false
     → GoesOn events (play in_time cursor (drop i steps)) (play in_time (pos 0) steps) → run ≡ left_by events (Some RTIOUnderflow) cursor
-    → length steps ≤ budget → IsTrue (cycles_rise (outputs_from (pos 0) steps)) → IsRun (program_of steps) run
-step_refused steps i cursor step event events run below is output late h e few rising =
+    → length steps ≤ budget → IsTrue (cycles_rise (outputs_from (pos 0) steps)) → IsRun program run
+step_refused program steps has i cursor step event events run below is output late h e few rising =
     let here = play_refused cursor step event (drop i steps) (drop (i + 1) steps) (drop_at steps i step below is) (sym output) late in
-    refused_run steps events cursor event run few rising (subst (λ p. GoesOn events p (play in_time (pos 0) steps)) here h) e
+    refused_run program steps has events cursor event run few rising (subst (λ p. GoesOn events p (play in_time (pos 0) steps)) here h) e
 
 -- no step is left
-pub steps_end : (steps : List Step) (i : ℕ) (cursor : ℤ) (events : List Event) (run : Run) → length steps ≤ i
+pub steps_end : (program : ProgramTree) (steps : List Step) → HasSteps program steps → (i : ℕ) (cursor : ℤ) (events : List Event) (run : Run) → length steps ≤ i
     → GoesOn events (play in_time cursor (drop i steps)) (play in_time (pos 0) steps) → run ≡ left_by events None cursor
-    → length steps ≤ budget → IsTrue (cycles_rise (outputs_from (pos 0) steps)) → IsRun (program_of steps) run
-steps_end steps i cursor events run past h e few rising =
+    → length steps ≤ budget → IsTrue (cycles_rise (outputs_from (pos 0) steps)) → IsRun program run
+steps_end program steps has i cursor events run past h e few rising =
     let none : drop i steps ≡ [] = drop_all i steps past in
-    ended_run steps events cursor run few rising (subst (λ left. GoesOn events (play in_time cursor left) (play in_time (pos 0) steps)) none h) e
+    ended_run program steps has events cursor run few rising (subst (λ left. GoesOn events (play in_time cursor left) (play in_time (pos 0) steps)) none h) e
 
 -- ---- the greatest cycle
 

@@ -1,14 +1,14 @@
 -- What the program answers and writes, and why.
-use Rattle.std.specs.Prelude.{◌≡◌, ℕ, ◌+◌, ◌≤◌, ◌<◌, List, length, take, Bool, true, false, IsTrue, IsFalse, Option, Some, None, codes, nat_le, ◌||◌, ◌==◌}
+use Rattle.std.specs.Prelude.{if◌then◌else◌, ◌≡◌, ℕ, ◌+◌, ◌≤◌, ◌<◌, List, length, take, Bool, IsTrue, IsFalse, Option, Some, None, codes, nat_le, ◌||◌, ◌==◌}
 use Rattle.std.specs.Io.KnownBytes.{Consumes, IsAtEnd, Appends}
 use Rattle.lab_io.specs.Causes.{Rose}
 use Rattle.rtio_types.specs.declared.outcome.Exc.{Exc}
 use Rattle.kern_syntax.specs.Tree.{ProgramTree}
-use Rattle.artiq_sim.specs.Straight.{IsStraightText, IsNoStraightText}
+use Rattle.artiq_sim.specs.Texts.{IsStraightText, IsRefused}
 use Rattle.artiq_sim.specs.Runs.{Run, IsRun}
 use Rattle.artiq_sim.specs.Report.{report_text}
 use Rattle.artiq_sim.specs.declared.answer.Answer.{Answer}
-use Rattle.artiq_sim.specs.declared.answer.Answer.TheVariants.{Report, Form}
+use Rattle.artiq_sim.specs.declared.answer.Answer.TheVariants.{Report, Refused}
 
 -- the most bytes of a text
 abbrev pub max_bytes : ℕ
@@ -42,11 +42,11 @@ pub record ReportsRun (old new held_old held_new : Option (List ℕ)) (status : 
   pub reports : ReportsText text written status
   pub grown : Appends held_old held_new written
 
--- the source was read to its end, and what it held is no straight text
-pub record HoldsNoStraightText (old new : Option (List ℕ)) : Type 0 where
+-- the source was read to its end, and what it held is refused with this line
+pub record HoldsRefused (told : List ℕ) (old new : Option (List ℕ)) : Type 0 where
   pub text : List ℕ
   pub read : ReadsWhole old new text
-  pub none : IsNoStraightText text
+  pub refused : IsRefused text told
 
 -- more bytes were taken than a text may have
 pub record TakesTooMany (old new : Option (List ℕ)) : Type 0 where
@@ -65,13 +65,20 @@ pub record OnlyTells (out_old out_new err_old err_new : Option (List ℕ)) (line
   pub out : out_new ≡ out_old
   pub err : Appends err_old err_new line
 
+-- the source held a text that is refused, and only err has grown, by the line that says why
+pub record TellsRefused (old new out_old out_new err_old err_new : Option (List ℕ)) : Type 0 where
+  pub told : List ℕ
+  pub holds : HoldsRefused told old new
+  pub tells : OnlyTells out_old out_new err_old err_new told
+
 -- why a run is refused or not made
 pub data Refusal : Type 0 where
-  form usage read_fault memory too_long : Refusal
+  of_text : (told : List ℕ) → Refusal
+  usage read_fault memory too_long : Refusal
 
 -- the line that a refusal writes
 abbrev pub refusal_line : Refusal → List ℕ
-refusal_line form = codes "form\n"
+refusal_line (of_text told) = told
 refusal_line usage = codes "usage: artiq_sim sim or check or compile or exec or gen\n"
 refusal_line read_fault = codes "read fault\n"
 refusal_line memory = codes "memory\n"
@@ -79,7 +86,7 @@ refusal_line too_long = codes "too long\n"
 
 -- why a refusal comes: by the words, the source's bytes and the source's faults
 abbrev pub IsCause : Refusal → (accepted : Bool) (old new : Option (List ℕ)) (before now : ℕ) → Type 0
-IsCause form accepted old new before now = IsTrue accepted × HoldsNoStraightText old new
+IsCause (of_text told) accepted old new before now = IsTrue accepted × HoldsRefused told old new
 IsCause usage accepted old new before now = IsFalse accepted
 IsCause read_fault accepted old new before now = IsTrue accepted × Rose before now
 IsCause memory accepted old new before now = IsTrue accepted
@@ -100,11 +107,11 @@ pub record ErrFails (accepted : Bool) (old new : Option (List ℕ)) (before now 
   pub cause : IsCause refusal accepted old new before now
   pub part : GrowsByPart held_old held_new (refusal_line refusal)
 
--- an answer is the report of a run of the text, or says that it is no straight text
+-- an answer is the report of a run of the text, which nothing refuses, or the line that refuses it, and it isn't straight
 abbrev pub IsAnswerTo : List ℕ → Answer → Type 0
-IsAnswerTo text (Report bytes true) = ReportsText text bytes.items 6
-IsAnswerTo text (Report bytes false) = ReportsText text bytes.items 0
-IsAnswerTo text Form = IsNoStraightText text
+IsAnswerTo text (Report bytes has_raised) =
+    ReportsText text bytes.items (if has_raised then 6 else 0) × ((told : List ℕ) → IsRefused text told → ⊥)
+IsAnswerTo text (Refused told) = IsRefused text told.items × ((program : ProgramTree) → IsStraightText text program → ⊥)
 
 -- the statuses that there are
 abbrev pub is_status : ℕ → Bool

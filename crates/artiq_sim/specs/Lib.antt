@@ -1,7 +1,9 @@
 pub mod Words
 pub mod Main
-pub mod Straight
-pub mod Steps
 pub mod Runs
+pub mod Steps
+pub mod Straight
+pub mod Texts
 pub mod Report
+pub mod Forms
 pub mod Answers

@@ -1,15 +1,14 @@
--- The steps of a straight kernel, and the program that they make.
-use Rattle.std.specs.Prelude.{ℕ, ◌+◌, List, [], ◌∷◌, ◌++◌, ℤ, pos, neg_ℤ, Some, None, if◌then◌else◌, option_to_list, codes}
+-- The steps of a straight kernel: what they are as trees, where they move the cursor, what they put out.
+use Rattle.std.specs.Prelude.{◌≡◌, List, [], ◌∷◌, ◌++◌, ℤ, pos, neg_ℤ, Some, None, if◌then◌else◌, option_to_list, codes}
 use Rattle.std.specs.declared.option.Option.{Option}
 use Rattle.rtio_types.specs.declared.event.Event.{Event}
 use Rattle.rtio_types.specs.Time.{later}
 use Rattle.rtio_types.specs.Board.{name_of_channel}
 use Rattle.kern_syntax.specs.declared.expression.UnaryOperator.TheVariants.{Negate}
-use Rattle.kern_syntax.specs.Tree.{Expression, integer, unary, call, method, no_more, value_then, evaluate, Block, done, line_then, ProgramTree}
+use Rattle.kern_syntax.specs.Tree.{Expression, integer, unary, call, method, no_more, value_then, evaluate, Block, done, line_then, FunctionTree, ProgramTree}
 use Rattle.artiq_sim.specs.declared.step.Literal.{Literal}
 use Rattle.artiq_sim.specs.declared.step.Step.{Step}
 use Rattle.artiq_sim.specs.declared.step.Step.TheVariants.{At, Delay, On, Off}
-use Rattle.artiq_sim.specs.Main.{main_of}
 
 -- the number that a literal stands for
 abbrev pub amount_of : Literal → ℤ
@@ -27,14 +26,18 @@ call_of (Delay literal) = call (codes "delay_mu") (value_then (literal_tree lite
 call_of (On channel) = method (name_of_channel channel.number) (codes "on") no_more
 call_of (Off channel) = method (name_of_channel channel.number) (codes "off") no_more
 
--- the lines of the steps, the first of which has this number, and then a block
-abbrev pub lines_then : ℕ → List Step → Block → Block
-lines_then number [] rest = rest
-lines_then number (step ∷ steps) rest = line_then number (evaluate (call_of step)) (lines_then (number + 1) steps rest)
+-- the statements of a body are these steps, in their order
+abbrev pub AreSteps : Block → List Step → Type 0
+AreSteps done [] = Unit {0}
+AreSteps done (step ∷ steps) = ⊥
+AreSteps (line_then line statement body) [] = ⊥
+AreSteps (line_then line statement body) (step ∷ steps) = (statement ≡ evaluate (call_of step)) × AreSteps body steps
 
--- the program whose `main` takes these steps, from line 2 on
-abbrev pub program_of : List Step → ProgramTree
-program_of steps = main_of (lines_then 2 steps done)
+-- the one function of a program takes these steps
+pub record HasSteps (program : ProgramTree) (steps : List Step) : Type 0 where
+  pub function : FunctionTree
+  pub alone : program ≡ function ∷ []
+  pub are : AreSteps function.body steps
 
 -- where the cursor stands after a step
 abbrev pub moved : Step → ℤ → ℤ
@@ -54,3 +57,8 @@ output_of (Off channel) cursor = Some (record { channel = channel.number; addres
 abbrev pub outputs_from : ℤ → List Step → List Event
 outputs_from cursor [] = []
 outputs_from cursor (step ∷ steps) = option_to_list (output_of step cursor) ++ outputs_from (moved step cursor) steps
+
+-- where the cursor stands after the steps
+abbrev pub cursor_after : ℤ → List Step → ℤ
+cursor_after cursor [] = cursor
+cursor_after cursor (step ∷ steps) = cursor_after (moved step cursor) steps

@@ -1,84 +1,63 @@
--- Straight texts: which bytes are the text of which program, line by line.
-use Rattle.std.specs.Prelude.{◌≡◌, ℕ, ◌+◌, ◌-◌, ◌*◌, ◌<◌, ◌≤◌, [], ◌∷◌, ◌++◌, length, Bool, ◌&&◌, ◌==◌, not, nat_le, IsTrue, codes}
-use Rattle.std.specs.List.{list_all}
-use Rattle.rtio_types.specs.Board.{name_of_channel}
+-- Straight programs: a `main` of constant calls whose outputs rise in cycles; else the first line that is wrong.
+use Rattle.std.specs.Prelude.{ℕ, ◌^◌, List, [], ◌∷◌, Bool, false, ◌&&◌, ◌||◌, nat_lt, bytes_eq, if◌then◌else◌, Option, Some, None, codes}
+use Rattle.rtio_types.specs.Board.{channel_of_name}
 use Rattle.kern_syntax.specs.declared.expression.UnaryOperator.TheVariants.{Negate}
-use Rattle.kern_syntax.specs.Tree.{Bytes, Expression, integer, unary, call, method, no_more, value_then, Statement, evaluate, Block, done, line_then, ProgramTree}
-use Rattle.artiq_sim.specs.Main.{main_of, statement_count}
+use Rattle.kern_syntax.specs.declared.program.DeclaredType.{DeclaredType}
+use Rattle.kern_syntax.specs.Tree.{Bytes, Expression, integer, unary, call, method, no_more, value_then, Statement, evaluate, Block, done, line_then, ParameterTree, FunctionTree, ProgramTree}
+use Rattle.artiq_sim.specs.Main.{line_behind}
 use Rattle.artiq_sim.specs.Runs.{events_planned, cycles_rise, are_in_range}
 
--- a decimal digit
-abbrev pub is_digit : ℕ → Bool
-is_digit byte = nat_le 48 byte && nat_le byte 57
+-- a number below 10^18, with at most one minus before it
+abbrev pub is_amount : Expression → Bool
+is_amount (integer n) = nat_lt n (10 ^ 18)
+is_amount (unary Negate (integer n)) = nat_lt n (10 ^ 18)
+is_amount _ = false
 
--- the number that digits write behind a number
-abbrev pub number_from : ℕ → Bytes → ℕ
-number_from n [] = n
-number_from n (digit ∷ digits) = number_from (10 * n + (digit - 48)) digits
+-- one of the channels 0 to 15
+abbrev pub is_ttl : Option ℕ → Bool
+is_ttl (Some channel) = nat_lt channel 16
+is_ttl None = false
 
--- 1 to 18 digits, leading zeros allowed, and the number that they write
-pub record IsNumeral (text : Bytes) (n : ℕ) : Type 0 where
-  pub digits : IsTrue (list_all is_digit text)
-  pub some : 1 ≤ length text
-  pub few : length text ≤ 18
-  pub value : n ≡ number_from 0 text
+-- one of the four calls
+abbrev pub is_straight_call : Expression → Bool
+is_straight_call (call function (value_then amount no_more)) =
+    (bytes_eq function (codes "at_mu") || bytes_eq function (codes "delay_mu")) && is_amount amount
+is_straight_call (method object name no_more) =
+    is_ttl (channel_of_name object) && (bytes_eq name (codes "on") || bytes_eq name (codes "off"))
+is_straight_call _ = false
 
--- the text of a number: digits, with at most one minus before them
-pub data IsNumberText (text : Bytes) (e : Expression) : Type 0 where
-  plain : (n : ℕ) → IsNumeral text n → e ≡ integer n → IsNumberText text e
-  negative : (digits : Bytes) (n : ℕ) → text ≡ codes "-" ++ digits → IsNumeral digits n → e ≡ unary Negate (integer n) → IsNumberText text e
+-- a statement of such a call alone
+abbrev pub is_straight_statement : Statement → Bool
+is_straight_statement (evaluate e) = is_straight_call e
+is_straight_statement _ = false
 
--- the text of one of the four calls
-pub data IsCallText (text : Bytes) (e : Expression) : Type 0 where
-  sets : (number : Bytes) (amount : Expression) → text ≡ codes "at_mu(" ++ (number ++ codes ")") → IsNumberText number amount → e ≡ call (codes "at_mu") (value_then amount no_more) → IsCallText text e
-  moves : (number : Bytes) (amount : Expression) → text ≡ codes "delay_mu(" ++ (number ++ codes ")") → IsNumberText number amount → e ≡ call (codes "delay_mu") (value_then amount no_more) → IsCallText text e
-  turns_on : (channel : ℕ) → channel < 16 → text ≡ name_of_channel channel ++ codes ".on()" → e ≡ method (name_of_channel channel) (codes "on") no_more → IsCallText text e
-  turns_off : (channel : ℕ) → channel < 16 → text ≡ name_of_channel channel ++ codes ".off()" → e ≡ method (name_of_channel channel) (codes "off") no_more → IsCallText text e
+-- the outputs of a body rise in cycles, up to the greatest one
+abbrev pub obeys_cycles : Block → Bool
+obeys_cycles body = cycles_rise (events_planned body) && are_in_range (events_planned body)
 
--- no byte of the text is this one
-abbrev pub lacks : ℕ → Bytes → Bool
-lacks byte text = list_all (λ b. not (b == byte)) text
+-- the line of the first statement, behind those before it, that isn't straight or whose output breaks the rule on cycles
+abbrev pub wrong_line_behind : Block → Block → Option ℕ
+wrong_line_behind before done = None
+wrong_line_behind before (line_then line statement rest) =
+    if is_straight_statement statement && obeys_cycles (line_behind before line statement)
+    then wrong_line_behind (line_behind before line statement) rest
+    else Some line
 
--- the first line of a text, without its line feed, and what follows it
-pub record IsFirstLine (text line rest : Bytes) : Type 0 where
-  pub cut : text ≡ line ++ 10 ∷ rest
-  pub whole : IsTrue (lacks 10 line)
+-- `main` without parameters and result type
+abbrev pub is_main : Bytes → List ParameterTree → Option DeclaredType → Bool
+is_main name [] None = bytes_eq name (codes "main")
+is_main name parameters result = false
 
--- the line of a statement, indented by four spaces
-pub record IsStatementLine (line : Bytes) (statement : Statement) : Type 0 where
-  pub words : Bytes
-  pub expression : Expression
-  pub indented : line ≡ codes "    " ++ words
-  pub is_call : IsCallText words expression
-  pub is_statement : statement ≡ evaluate expression
+-- the line of a second function, if no line before it is wrong
+abbrev pub or_second : Option ℕ → List FunctionTree → Option ℕ
+or_second (Some line) functions = Some line
+or_second None [] = None
+or_second None (function ∷ functions) = Some function.line
 
--- the lines of a body, the first of which has this number
-abbrev pub AreLines : ℕ → Bytes → Block → Type 0
-AreLines number text done = text ≡ []
-AreLines number text (line_then line statement body) =
-    (first : Bytes)
-    × (rest : Bytes)
-    × IsFirstLine text first rest
-    × (line ≡ number)
-    × IsStatementLine first statement
-    × AreLines (number + 1) rest body
-
--- the bytes are the straight text of the program
-pub record IsStraightText (text : Bytes) (program : ProgramTree) : Type 0 where
-  pub body : Block
-  pub lines : Bytes
-  pub head : text ≡ codes "def main():\n" ++ lines
-  pub body_lines : AreLines 2 lines body
-  pub is_main : program ≡ main_of body
-  pub some : 1 ≤ statement_count body
-  pub few : statement_count body ≤ 4000
-  pub rising : IsTrue (cycles_rise (events_planned body))
-  pub in_range : IsTrue (are_in_range (events_planned body))
-
--- no program has these bytes as its straight text
-abbrev pub IsNoStraightText : Bytes → Type 0
-IsNoStraightText text = (program : ProgramTree) → IsStraightText text program → ⊥
-
--- no text is the straight text of two programs
-abbrev pub HaveOneTree : Type 0
-HaveOneTree = (text : Bytes) (p q : ProgramTree) → IsStraightText text p → IsStraightText text q → p ≡ q
+-- the first line of a program that isn't straight
+abbrev pub wrong_line : ProgramTree → Option ℕ
+wrong_line [] = Some 1
+wrong_line (function ∷ functions) =
+    if is_main function.name function.parameters function.result
+    then or_second (wrong_line_behind done function.body) functions
+    else Some function.line

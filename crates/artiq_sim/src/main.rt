@@ -2,10 +2,10 @@
 #![tactic(auto)]
 
 mod answer;
-pub mod laws;
 mod played;
+mod refusal;
 mod report;
-mod rising;
+mod rule;
 mod run;
 mod step;
 mod straight;

@@ -2,7 +2,8 @@
 ghost use Rattle.std.specs.Prelude.{◌≡◌, ◌≤◌, ◌*ℤ◌, pos, length, IfOk, IsTrue, int_lt};
 ghost use Rattle.rtio_types.specs.Time.{coarse_of};
 ghost use Rattle.artiq_sim.specs.Runs.{IsRun, cycles_rise, last_cycle};
-ghost use Rattle.artiq_sim.specs.Steps.{outputs_from, program_of};
+ghost use Rattle.artiq_sim.specs.Steps.{outputs_from, HasSteps};
+ghost use Rattle.kern_syntax.specs.Tree.{ProgramTree};
 
 use crate::played::Played;
 use crate::step::Step;
@@ -17,7 +18,7 @@ const COUNTER: i64 = 0;
 pub fn run(alloc: Global, steps: &[Step]) -> Result<Played, AllocError>
     requires units { length steps.now ≤ 1000000 }
     requires rising { IsTrue (cycles_rise (outputs_from (pos 0) steps.now)) }
-    ensures { IfOk result (λ played. IsRun (program_of steps.now) played) }
+    ensures { IfOk result (λ played. (program : ProgramTree) → HasSteps program steps.now → IsRun program played) }
 {
     let mut events = Vec::new(alloc);
     let mut cursor = 0;

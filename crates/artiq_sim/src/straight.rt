@@ -1,202 +1,215 @@
-// Which texts are straight: the lines of a `main`, each one of four calls.
-ghost use Rattle.std.specs.Prelude.{◌==◌, position, ◌≡◌, ◌≢◌, ◌<◌, ◌^◌, ◌++◌, ◌∷◌, ℕ, List, MatchOption, IfOk, IsTrue};
-ghost use Rattle.rtio_types.specs.Board.{name_of_channel};
-ghost use Rattle.kern_syntax.specs.Tree.{Expression, Statement, Block, evaluate, done};
-ghost use Rattle.artiq_sim.specs.Straight.{IsNumeral, IsNumberText, IsCallText, IsFirstLine, IsStatementLine, AreLines, IsStraightText, IsNoStraightText};
-ghost use Rattle.artiq_sim.specs.Steps.{literal_tree, call_of, lines_then, program_of};
+// Which programs are straight, and their steps.
+ghost use Rattle.std.specs.Prelude.{◌≡◌, ◌≢◌, ◌≤◌, ◌^◌, ℕ, List, length, false, true, nat_lt, bytes_eq, IfOk, MatchOption};
+ghost use Rattle.rtio_types.specs.Board.{name_of_channel, channel_of_name};
+ghost use Rattle.kern_syntax.specs.Tree.{Expression, call, method, evaluate, value_then, no_more};
+ghost use Rattle.kern_syntax.specs.TreeOf.{tree_of, function_of, block_of, statement_of, expression_of, arguments_of};
+ghost use Rattle.kern_syntax.specs.Nodes.{program_nodes};
+ghost use Rattle.artiq_sim.specs.Main.{statement_count};
+ghost use Rattle.artiq_sim.specs.Straight.{is_ttl, is_amount, is_straight_call, is_straight_statement, is_main};
+ghost use Rattle.artiq_sim.specs.Steps.{call_of, literal_tree};
+ghost use Rattle.artiq_sim.specs.Forms.{IsFormOf, IsFormOfBody, may_follow, latest};
 
-use crate::rising::{are_near, outputs, rise};
+use crate::rule::{last_output, obeys};
 use crate::step::{Literal, Step, Ttl};
+use kern_syntax::{Argument, Block, Expr, Function, Program, StmtKind, UnaryOperator};
 use rtio_types::channel_named;
 use std::alloc::{AllocError, Global};
 
-// The greatest number of lines below the first.
-const MAX_STEPS: usize = 4000;
-
-/// The steps of a straight text, or None where the text isn't straight.
-pub fn steps_of_text(alloc: Global, text: &[u8]) -> Result<Option<Vec<Step>>, AllocError>
-    ensures { IfOk result (λ found. MatchOption found
-        (IsNoStraightText text.now)
-        (λ steps. IsStraightText text.now (program_of steps.items))) }
-{
-    let Some(lines) = after(text, b"def main():\n") else {
-        return Ok(None);
-    };
-    let Some(steps) = steps_of(alloc, lines)? else {
-        return Ok(None);
-    };
-    if steps.is_empty() || steps.len() > MAX_STEPS {
-        return Ok(None);
-    }
-    let outputs = outputs(alloc, &steps)?;
-    if !rise(&outputs) || !are_near(&outputs) {
-        return Ok(None);
-    }
-    Ok(Some(steps))
+/// What a program is to `sim`.
+#[derive(Drop)]
+pub enum Form {
+    /// Straight, with these steps.
+    Straight(Vec<Step>),
+    /// Not straight; this is the first wrong line, from 1.
+    Wrong(u32),
 }
 
-// The steps of the lines of a body; None where some line is no step's.
-fn steps_of(alloc: Global, lines: &[u8]) -> Result<Option<Vec<Step>>, AllocError>
-    ensures { IfOk result (λ found. MatchOption found
-        ((body : Block) → AreLines 2 lines.now body → ⊥)
-        (λ steps. AreLines 2 lines.now (lines_then 2 steps.items done))) }
+/// The steps of a straight program, or the line of the first function or statement that isn't straight, an output
+/// that breaks the rule on cycles included.
+pub fn form_of(alloc: Global, program: &Program) -> Result<Form, AllocError>
+    requires { program_nodes (tree_of program.now) ≤ 16384 }
+    ensures { IfOk result (λ form. IsFormOf (tree_of program.now) form) }
+{
+    let [function, others @ ..] = program.functions() else {
+        return Ok(Form::Wrong(1));
+    };
+    if !is_plain_main(function) {
+        return Ok(Form::Wrong(function.line));
+    }
+    match form_of_body(alloc, &function.body)? {
+        Form::Wrong(line) => Ok(Form::Wrong(line)),
+        Form::Straight(steps) => match others {
+            [] => Ok(Form::Straight(steps)),
+            [second, ..] => Ok(Form::Wrong(second.line)),
+        },
+    }
+}
+
+// Whether the function is `main` without parameters and result type.
+fn is_plain_main(function: &Function) -> bool
+    ensures { result ≡ is_main (function_of function.now).name (function_of function.now).parameters (function_of function.now).result }
+{
+    function.name.bytes() == b"main".as_slice()
+        && function.parameters.items().is_empty()
+        && function.result.is_none()
+}
+
+// The same of the body of the first function.
+fn form_of_body(alloc: Global, body: &Block) -> Result<Form, AllocError>
+    requires { statement_count (block_of body.now) ≤ 16384 }
+    ensures { IfOk result (λ form. IsFormOfBody (block_of body.now) form) }
 {
     let mut steps = Vec::new(alloc);
-    let mut left = lines;
-    while !left.is_empty() {
-        let Some((line, rest)) = first_line(left) else {
-            return Ok(None);
+    let mut cursor = 0;
+    let mut last = None;
+    for statement in body.statements.iter() {
+        let Some(step) = step_of(&statement.kind) else {
+            return Ok(Form::Wrong(statement.line));
         };
-        let Some(step) = step_on(line) else {
-            return Ok(None);
-        };
+        let output = step.output(cursor);
+        if !obeys(last, output) {
+            return Ok(Form::Wrong(statement.line));
+        }
+        last = last_output(last, output);
+        cursor = step.moved(cursor);
         steps.push(step)?;
-        left = rest;
     }
-    Ok(Some(steps))
+    Ok(Form::Straight(steps))
 }
 
-// The first line, without its line feed, and what follows it.
-fn first_line(text: &[u8]) -> Option<(&[u8], &[u8])>
+// The step that a statement is.
+fn step_of(statement: &StmtKind) -> Option<Step>
     ensures { MatchOption result
-        ((line rest : List ℕ) → IsFirstLine text.now line rest → ⊥)
-        (λ cut. IsFirstLine text.now cut.0.now cut.1.now) }
+        (is_straight_statement (statement_of statement.now) ≡ false)
+        (λ step. (is_straight_statement (statement_of statement.now) ≡ true)
+        × (statement_of statement.now ≡ evaluate (call_of step))) }
 {
-    match line_end(text) {
-        Some(end) => Some((&text[..end], &text[end + 1..])),
-        None => None,
+    match statement {
+        StmtKind::Evaluate(e) => step_of_call(e),
+        _ => None,
     }
 }
 
-// The place of the first line feed.
-fn line_end(text: &[u8]) -> Option<usize>
-    ensures { result ≡ position (λ byte. byte == 10) text.now }
-{
-    text.iter().position(|byte| *byte == b'\n')
-}
-
-// The step on an indented line.
-fn step_on(line: &[u8]) -> Option<Step>
+// The step that a call is.
+fn step_of_call(e: &Expr) -> Option<Step>
     ensures { MatchOption result
-        ((statement : Statement) → IsStatementLine line.now statement → ⊥)
-        (λ step. IsStatementLine line.now (evaluate (call_of step))) }
+        (is_straight_call (expression_of e.now) ≡ false)
+        (λ step. (is_straight_call (expression_of e.now) ≡ true) × (expression_of e.now ≡ call_of step)) }
 {
-    match after(line, b"    ") {
-        Some(words) => step_of(words),
-        None => None,
+    match e {
+        Expr::Call(function, arguments) => function_step(function.bytes(), arguments),
+        Expr::Method(object, name, arguments) => method_step(
+            object.bytes(),
+            name.bytes(),
+            arguments,
+        ),
+        _ => None,
     }
 }
 
-// The step that a call's text spells.
-fn step_of(text: &[u8]) -> Option<Step>
+// The step that a call of one of the language's functions is.
+fn function_step(function: &[u8], arguments: &[Argument]) -> Option<Step>
     ensures { MatchOption result
-        ((e : Expression) → IsCallText text.now e → ⊥)
-        (λ step. IsCallText text.now (call_of step)) }
+        (is_straight_call (call function.now (arguments_of arguments.now)) ≡ false)
+        (λ step. (is_straight_call (call function.now (arguments_of arguments.now)) ≡ true)
+        × (call function.now (arguments_of arguments.now) ≡ call_of step)) }
 {
-    if let Some(number) = between(text, b"at_mu(", b")") {
-        return match literal(number) {
-            Some(literal) => Some(Step::At(literal)),
-            None => None,
-        };
+    let Some(value) = only_value(arguments) else {
+        return None;
+    };
+    let Some(amount) = literal_of(value) else {
+        return None;
+    };
+    if is_word(function, b"at_mu") {
+        return Some(Step::At(amount));
     }
-    if let Some(number) = between(text, b"delay_mu(", b")") {
-        return match literal(number) {
-            Some(literal) => Some(Step::Delay(literal)),
-            None => None,
-        };
-    }
-    if let Some(object) = before(text, b".on()") {
-        return match ttl(object) {
-            Some(channel) => Some(Step::On(channel)),
-            None => None,
-        };
-    }
-    if let Some(object) = before(text, b".off()") {
-        return match ttl(object) {
-            Some(channel) => Some(Step::Off(channel)),
-            None => None,
-        };
+    if is_word(function, b"delay_mu") {
+        return Some(Step::Delay(amount));
     }
     None
+}
+
+// The step that a call of a channel's method is.
+fn method_step(object: &[u8], name: &[u8], arguments: &[Argument]) -> Option<Step>
+    ensures { MatchOption result
+        (is_straight_call (method object.now name.now (arguments_of arguments.now)) ≡ false)
+        (λ step. (is_straight_call (method object.now name.now (arguments_of arguments.now)) ≡ true)
+        × (method object.now name.now (arguments_of arguments.now) ≡ call_of step)) }
+{
+    if !arguments.is_empty() {
+        return None;
+    }
+    let Some(channel) = ttl(object) else {
+        return None;
+    };
+    if is_word(name, b"on") {
+        return Some(Step::On(channel));
+    }
+    if is_word(name, b"off") {
+        return Some(Step::Off(channel));
+    }
+    None
+}
+
+// Whether a name is this word.
+fn is_word(name: &[u8], word: &[u8]) -> bool
+    ensures { result ≡ bytes_eq name.now word.now }
+{
+    name == word
+}
+
+// The expression that is the one argument of a call.
+fn only_value(arguments: &[Argument]) -> Option<&Expr>
+    ensures { MatchOption result
+        ((e : Expression) → arguments_of arguments.now ≢ value_then e no_more)
+        (λ value. arguments_of arguments.now ≡ value_then (expression_of value.now) no_more) }
+{
+    let [argument] = arguments else {
+        return None;
+    };
+    match argument {
+        Argument::Value(value) => Some(value),
+        Argument::Text(_) => None,
+    }
+}
+
+// The literal that an expression is.
+fn literal_of(e: &Expr) -> Option<Literal>
+    ensures { MatchOption result
+        (is_amount (expression_of e.now) ≡ false)
+        (λ literal. (is_amount (expression_of e.now) ≡ true) × (expression_of e.now ≡ literal_tree literal)) }
+{
+    match e {
+        Expr::Integer(magnitude) => literal(false, *magnitude),
+        Expr::Unary(UnaryOperator::Negate, inner) => match &**inner {
+            Expr::Integer(magnitude) => literal(true, *magnitude),
+            _ => None,
+        },
+        _ => None,
+    }
+}
+
+// A literal below 10^18.
+fn literal(negated: bool, magnitude: u64) -> Option<Literal>
+    ensures { MatchOption result
+        (nat_lt magnitude (10 ^ 18) ≡ false)
+        (λ literal. (nat_lt magnitude (10 ^ 18) ≡ true) × (literal.negated ≡ negated) × (literal.magnitude ≡ magnitude)) }
+{
+    if magnitude < 1000000000000000000 {
+        Some(Literal { negated, magnitude })
+    } else {
+        None
+    }
 }
 
 // The output channel with this name.
 fn ttl(name: &[u8]) -> Option<Ttl>
     ensures { MatchOption result
-        ((channel : ℕ) → channel < 16 → name.now ≢ name_of_channel channel)
-        (λ ttl. name.now ≡ name_of_channel ttl.number) }
+        (is_ttl (channel_of_name name.now) ≡ false)
+        (λ ttl. (is_ttl (channel_of_name name.now) ≡ true) × (name.now ≡ name_of_channel ttl.number)) }
 {
     match channel_named(name) {
         Some(number) if number < 16 => Some(Ttl { number }),
         _ => None,
     }
-}
-
-// What stands between a beginning and an end.
-fn between<'a>(text: &'a [u8], front: &[u8], back: &[u8]) -> Option<&'a [u8]>
-    ensures { MatchOption result
-        ((inner : List ℕ) → text.now ≢ front.now ++ (inner ++ back.now))
-        (λ inner. text.now ≡ front.now ++ (inner.now ++ back.now)) }
-{
-    match after(text, front) {
-        Some(rest) => before(rest, back),
-        None => None,
-    }
-}
-
-// What stands after a beginning.
-fn after<'a>(text: &'a [u8], front: &[u8]) -> Option<&'a [u8]>
-    ensures { MatchOption result ((rest : List ℕ) → text.now ≢ front.now ++ rest) (λ rest. text.now ≡ front.now ++ rest.now) }
-{
-    text.strip_prefix(front)
-}
-
-// What stands before an end.
-fn before<'a>(text: &'a [u8], back: &[u8]) -> Option<&'a [u8]>
-    ensures { MatchOption result ((rest : List ℕ) → text.now ≢ rest ++ back.now) (λ rest. text.now ≡ rest.now ++ back.now) }
-{
-    text.strip_suffix(back)
-}
-
-// The number that a text spells, with its sign.
-fn literal(text: &[u8]) -> Option<Literal>
-    ensures { MatchOption result
-        ((e : Expression) → IsNumberText text.now e → ⊥)
-        (λ literal. IsNumberText text.now (literal_tree literal)) }
-{
-    match after(text, b"-") {
-        Some(digits) => match numeral(digits) {
-            Some(magnitude) => Some(Literal {
-                negated: true,
-                magnitude,
-            }),
-            None => None,
-        },
-        None => match numeral(text) {
-            Some(magnitude) => Some(Literal {
-                negated: false,
-                magnitude,
-            }),
-            None => None,
-        },
-    }
-}
-
-// The number that 1 to 18 digits write.
-fn numeral(digits: &[u8]) -> Option<u64>
-    ensures { MatchOption result
-        ((n : ℕ) → IsNumeral digits.now n → ⊥)
-        (λ n. IsNumeral digits.now n × (n < 10 ^ 18)) }
-{
-    if digits.is_empty() || digits.len() > 18 {
-        return None;
-    }
-    let mut number = 0;
-    for digit in digits {
-        if *digit < b'0' || *digit > b'9' {
-            return None;
-        }
-        number = 10 * number + u64::from(*digit - b'0');
-    }
-    Some(number)
 }

@@ -1,11 +1,11 @@
 // The program as a function: words and bytes in, bytes and a status out.
-ghost use Rattle.std.specs.Prelude.{◌≡◌, ◌≢◌, ℕ, ◌+◌, ◌≤◌, ◌<◌, List, [], length, map, string_bytes, IsTrue, IsFalse, ◌⊎◌, IfOk, Some, codes};
+ghost use Rattle.std.specs.Prelude.{if◌then◌else◌, ◌≡◌, ◌≢◌, ℕ, ◌+◌, ◌≤◌, ◌<◌, List, [], length, map, string_bytes, IsTrue, IsFalse, ◌⊎◌, IfOk, Some, codes};
 ghost use Rattle.std.specs.Io.KnownBytes.{Appends};
 ghost use Rattle.lab_io.specs.Causes.{Rose};
 ghost use Rattle.kern_syntax.specs.Tree.{ProgramTree};
 ghost use Rattle.artiq_sim.specs.Words.{are_accepted};
-ghost use Rattle.artiq_sim.specs.Straight.{IsStraightText, IsNoStraightText};
-ghost use Rattle.artiq_sim.specs.Answers.{max_bytes, ReadsWhole, ReportsText, ReportsRun, HoldsNoStraightText, TakesTooMany, OnlyTells, Refusal, form, usage, read_fault, memory, too_long, refusal_line, OutFails, ErrFails, is_status, GrowsByPart, NoFaultCame};
+ghost use Rattle.artiq_sim.specs.Texts.{IsStraightText, IsRefused};
+ghost use Rattle.artiq_sim.specs.Answers.{max_bytes, ReadsWhole, ReportsText, ReportsRun, TellsRefused, TakesTooMany, OnlyTells, Refusal, usage, read_fault, memory, too_long, refusal_line, OutFails, ErrFails, is_status, GrowsByPart, NoFaultCame};
 
 use crate::answer::{Answer, answer_to};
 use lab_io::{ReadEnd, Sink, Source, read_all, write_all};
@@ -41,9 +41,8 @@ pub fn sim_top<S: Source, K: Sink, E: Sink>(
     // The source held more bytes than a text may have.
     ensures too_long { result ≡ 8 → TakesTooMany (S.left source.old) (S.left source.new)
         × OnlyTells (K.held out.old) (K.held out.new) (E.held err.old) (E.held err.new) (refusal_line too_long) }
-    // All that the source held is no straight text.
-    ensures form { result ≡ 1 → HoldsNoStraightText (S.left source.old) (S.left source.new)
-        × OnlyTells (K.held out.old) (K.held out.new) (E.held err.old) (E.held err.new) (refusal_line form) }
+    // All that the source held is a text that is refused, and err has the line that says why.
+    ensures refused { result ≡ 1 → TellsRefused (S.left source.old) (S.left source.new) (K.held out.old) (K.held out.new) (E.held err.old) (E.held err.new) }
     // Memory was refused.
     ensures memory { result ≡ 5 → OnlyTells (K.held out.old) (K.held out.new) (E.held err.old) (E.held err.new) (refusal_line memory) }
     // All that the source held is a straight text, and out has its report.
@@ -70,9 +69,9 @@ pub fn sim_top<S: Source, K: Sink, E: Sink>(
         → S.left source.old ≡ Some text → length text ≤ max_bytes → IsStraightText text program
         → NoFaultCame (S.faults source.old) (S.faults source.new) (K.faults out.old) (K.faults out.new) (E.faults err.old) (E.faults err.new)
         → (result ≡ 0) ⊎ (result ≡ 6) ⊎ (result ≡ 5) }
-    // Nothing but want of memory keeps another text from its refusal where no fault comes.
-    ensures form_only { (text : List ℕ) → IsTrue (are_accepted (map string_bytes words.now))
-        → S.left source.old ≡ Some text → length text ≤ max_bytes → IsNoStraightText text
+    // Nothing but want of memory keeps a text that is refused from its refusal where no fault comes.
+    ensures refused_only { (text told : List ℕ) → IsTrue (are_accepted (map string_bytes words.now))
+        → S.left source.old ≡ Some text → length text ≤ max_bytes → IsRefused text told
         → NoFaultCame (S.faults source.old) (S.faults source.new) (K.faults out.old) (K.faults out.new) (E.faults err.old) (E.faults err.new)
         → (result ≡ 1) ⊎ (result ≡ 5) }
 {
@@ -89,8 +88,8 @@ pub fn sim_top<S: Source, K: Sink, E: Sink>(
         Err(ReadEnd::Memory) => told(err, b"memory\n", 5),
         Ok(text) => match answer_to(alloc, &text) {
             Err(_) => told(err, b"memory\n", 5),
-            Ok(Answer::Form) => told(err, b"form\n", 1),
-            Ok(Answer::Report { bytes, raised }) => told(out, &bytes, if raised { 6 } else { 0 }),
+            Ok(Answer::Refused(line)) => told(err, &line, 1),
+            Ok(Answer::Report { bytes, raised }) => told(out, &bytes, end_status(raised)),
         },
     }
 }
@@ -103,6 +102,14 @@ pub fn without_memory<E: Sink>(err: &mut E) -> u8
     ensures statuses { (result ≡ 5) ⊎ (result ≡ 4) }
 {
     told(err, b"memory\n", 5)
+}
+
+// The status of a run by its end.
+fn end_status(raised: bool) -> u8
+    ensures value { result ≡ (if raised then 6 else 0) }
+    ensures ends { (result ≡ 0) ⊎ (result ≡ 6) }
+{
+    if raised { 6 } else { 0 }
 }
 
 // Writes what is due, and answers its status, or 4 where the sink failed.

@@ -75,9 +75,9 @@ fn straight_texts_are_reported(rt: HostRuntime) -> Result<(), Fail> {
             0,
             "out 8 15 0 1\nend ok\ncursor 8\ncounter 8\n",
         ),
-        // Numbers with zeros in front, and a negated zero.
+        // Comments, a decorator, blank lines, other spellings of numbers, and no line feed at the end.
         (
-            "def main():\n    at_mu(000000000000000016)\n    delay_mu(-0)\n    ttl9.off()\n    delay_mu(-20)\n",
+            "# sixteen\n@kernel\ndef main():\n  at_mu( 0x10 ) # \t$\n\n  delay_mu(-0)\r\n  ttl9.off()\n  delay_mu(-2_0)",
             0,
             "out 16 9 0 0\nend ok\ncursor -4\ncounter 16\n",
         ),
@@ -121,46 +121,60 @@ fn the_cursor_wraps_at_64_bits(rt: HostRuntime) -> Result<(), Fail> {
 }
 
 #[test]
-fn other_texts_are_refused(rt: HostRuntime) -> Result<(), Fail> {
-    let texts = [
-        "",
-        "def main():\n",
-        "def main():\n    at_mu(1000)\n    ttl0.off()\n    ttl0.on()\n",
-        "def main():\n    at_mu(1000)\n    ttl0.on()\n    delay_mu(7)\n    ttl1.on()\n",
-        "def main():\n    at_mu(1073741832)\n    ttl0.on()\n",
-        "def main():\n    at_mu(1000)\n    ttl0.on()",
-        "def main():\n    ttl00.on()\n",
-        "def main():\n    ttl16.on()\n",
-        "def main():\n    raw0.on()\n",
-        "def main():\n    at_mu(1000000000000000000)\n",
-        "def main():\n    at_mu(--8)\n",
-        "def main():\n    at_mu()\n",
-        "def main():\n    at_mu( 8)\n",
-        "def main():\n    at_mu(8) \n",
-        "def main():\n\tat_mu(8)\n",
-        "def main():\n     at_mu(8)\n",
-        "def main():\r\n    at_mu(8)\r\n",
-        "def main():\n    at_mu(8)\n\n",
-        "# a comment\ndef main():\n    at_mu(8)\n",
-        "def main():\n    ttl0.pulse_mu(8)\n",
+fn other_texts_are_refused_by_name_and_place(rt: HostRuntime) -> Result<(), Fail> {
+    let cases = [
+        // No tokens: the place of what is wrong in bytes, and its kind.
+        ("def main(): x = 1__2", "lex 16 Number\n"),
+        ("def main():\n\tpass\n", "lex 12 Tab\n"),
+        // No tree: the number of the first wrong token, and its place in bytes.
+        ("", "syntax 0 0\n"),
+        ("def main():\n", "syntax 6 12\n"),
+        ("def main(): pass pass", "syntax 6 17\n"),
+        ("def 5():", "syntax 1 4\n"),
+        ("def main()", "syntax 4 10\n"),
+        // Not straight: the first wrong line.
+        ("def main(): pass", "form 1\n"),
+        ("def f():\n    at_mu(8)\n", "form 1\n"),
+        ("def main(x: int32):\n    at_mu(8)\n", "form 1\n"),
+        (
+            "def main():\n    at_mu(8)\n\ndef f():\n    at_mu(8)\n",
+            "form 4\n",
+        ),
+        (
+            "def main():\n    at_mu(1000)\n    ttl0.off()\n    ttl0.on()\n",
+            "form 4\n",
+        ),
+        (
+            "def main():\n    at_mu(1073741832)\n    ttl0.on()\n",
+            "form 3\n",
+        ),
+        ("def main():\n    raw0.on()\n", "form 2\n"),
+        ("def main():\n    at_mu(1000000000000000000)\n", "form 2\n"),
+        ("def main():\n    at_mu(--8)\n", "form 2\n"),
+        ("def main():\n    at_mu((8))\n", "form 2\n"),
+        ("def main():\n    at_mu()\n", "form 2\n"),
+        ("def main():\n    at_mu(8, 8)\n", "form 2\n"),
     ];
-    for text in texts {
+    for (text, line) in cases {
         let left = of_text(rt.alloc(), text)?;
         assert_eq!(rt; left.status, 1, "{text}");
         assert_eq!(rt; left.out.len(), 0, "{text}");
-        assert_eq!(rt; left.err.as_slice(), b"form\n".as_slice(), "{text}");
+        assert_eq!(rt; left.err.as_slice(), line.as_bytes(), "{text}");
     }
     Ok(())
 }
 
+// One function and a statement a line: 16,384 nodes are allowed, and `pass` isn't straight.
 #[test]
-fn at_most_4000_lines_are_straight(rt: HostRuntime) -> Result<(), Fail> {
-    for (lines, status) in [(4000, 0), (4001, 1)] {
+fn a_program_has_at_most_16384_nodes(rt: HostRuntime) -> Result<(), Fail> {
+    for (lines, told) in [(16383, "form 2\n"), (16384, "code 16385\n")] {
         let mut text = String::from_str(rt.alloc(), "def main():\n")?;
         for _ in 0..lines {
-            text.push_str("    delay_mu(8)\n")?;
+            text.push_str("    pass\n")?;
         }
-        assert_eq!(rt; of_text(rt.alloc(), &text)?.status, status, "{lines} lines");
+        let left = of_text(rt.alloc(), &text)?;
+        assert_eq!(rt; left.status, 1, "{lines} lines");
+        assert_eq!(rt; left.err.as_slice(), told.as_bytes(), "{lines} lines");
     }
     Ok(())
 }
@@ -231,7 +245,10 @@ fn a_failing_write_leaves_a_part(rt: HostRuntime) -> Result<(), Fail> {
 #[test]
 fn one_byte_more_than_a_mebibyte_is_too_long(rt: HostRuntime) -> Result<(), Fail> {
     let alloc = rt.alloc();
-    let cases = [(1048576, 1, "form\n"), (1048577, 8, "too long\n")];
+    let cases = [
+        (1048576, 1, "syntax 0 1048576\n"),
+        (1048577, 8, "too long\n"),
+    ];
     for (len, status, line) in cases {
         let left = run_program(alloc, &["sim"], vec![in alloc; b'#'; len]?, &[], &[], &[])?;
         assert_eq!(rt; left.status, status, "{len} bytes");

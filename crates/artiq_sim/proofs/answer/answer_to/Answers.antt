@@ -1,22 +1,32 @@
-use Rattle.std.proofs.Common.{ap, ◌∙◌, ◌≤◌, length, arith}
-use Rattle.std.specs.Prelude.{is_some}
-use Rattle.artiq_sim.proofs.Recognised.{straight_runs, answered}
+use Rattle.std.proofs.Common.{◌<◌, length, arith}
+use Rattle.kern_lexer.specs.Symbols.{lexemes_of}
+use Rattle.kern_syntax.specs.TreeOf.{tree_of}
+use Rattle.artiq_sim.proofs.Answering.{answer_no_tokens, answer_no_tree, fault_of_end, first_of_end, fault_within, token_at, answers_of_tree}
 use Rattle.artiq_sim.proofs.answer.answer_to.Goals as goal
 
-pub run-requires-clause-units : goal.run-requires-clause-units
-run-requires-clause-units c =
-    let straight = rw c.in-Some.is at c.in_ok-steps.ensures in
-    let few : length c.in-Some.steps.items ≤ 4000 = (straight_runs c.args.text.now c.in-Some.steps.items straight).0 in
-    rw c.deref.ensures.value (omega (arith, few))
+pub returns-in-Err-Fault : goal.returns-in-Err-Fault
+returns-in-Err-Fault c =
+    answer_no_tokens c.args.text.now c.in_ok-lex_refusal-in-Err-Fault.field-0.items (record { at = c.in-Err-Fault.at; kind = c.in-Err-Fault.kind })
+    (fault_of_end c.args.text.now c.in-Err-Fault.field-0 c.in-Err-Fault.at c.in-Err-Fault.kind c.in-Err-Fault.field-0-is c.in-Err-Fault.ensures.fault)
+    c.in_ok-lex_refusal-in-Err-Fault.ensures
 
-pub run-requires-clause-rising : goal.run-requires-clause-rising
-run-requires-clause-rising c =
-    let straight = rw c.in-Some.is at c.in_ok-steps.ensures in
-    rw c.deref.ensures.value (straight_runs c.args.text.now c.in-Some.steps.items straight).1
+pub returns-in-Ok-parse : goal.returns-in-Ok-parse
+returns-in-Ok-parse c =
+    let lexed = rw (← c.deref.ensures.value) at c.in-Ok.ensures.tokens in
+    answers_of_tree c.args.text.now c.deref.result.now (tree_of c.in-Ok-parse.program) c.answer_to_program.result lexed c.in-Ok-parse.ensures.found c.in-Ok-parse.ensures.only
+    c.answer_to_program.ensures
 
 pub returns : goal.returns
 returns c =
-    let straight = rw c.in-Some.is at c.in_ok-steps.ensures in
-    let is_run = rw c.deref.ensures.value at c.in_ok-played.ensures in
-    answered c.args.text.now c.in-Some.steps.items c.in_ok-played.played c.in_ok-bytes.bytes c.is_some.result straight is_run c.in_ok-bytes.ensures
-    (c.is_some.ensures ∙ ap (λ r. is_some r.raised) c.played.view_is)
+    let lexed = rw (← c.deref.ensures.value) at c.in-Ok.ensures.tokens in
+    let first = first_of_end (lexemes_of c.args.text.now c.deref.result.now) c.in-Err-Fault-parse.field-0 c.in-Err-Fault-parse.token c.in-Err-Fault-parse.field-0-is c.in-Err-Fault-parse.ensures.fault in
+    answer_no_tree c.args.text.now c.in_ok-syntax_refusal-in-Err-Fault-parse.field-0.items c.deref.result.now c.in-Err-Fault-parse.token c.index.result.now lexed first
+    (token_at c.deref.result.now c.in-Err-Fault-parse.token c.index.result.now (fault_within c.args.text.now c.deref.result.now c.in-Err-Fault-parse.token first) (rw c.deref.ensures.value c.index.ensures))
+    c.in_ok-syntax_refusal-in-Err-Fault-parse.ensures
+
+pub index-requires : goal.index-requires
+index-requires c =
+    let first = first_of_end (lexemes_of c.args.text.now c.deref.result.now) c.in-Err-Fault-parse.field-0 c.in-Err-Fault-parse.token c.in-Err-Fault-parse.field-0-is c.in-Err-Fault-parse.ensures.fault in
+    let within : c.in-Err-Fault-parse.token < length c.deref.result.now = fault_within c.args.text.now c.deref.result.now c.in-Err-Fault-parse.token first in
+    let long = c.deref.ensures.len in
+    omega (arith, within, long)

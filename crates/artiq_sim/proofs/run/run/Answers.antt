@@ -16,7 +16,7 @@ loop-step-init c =
 
 pub returns-then-not-is_in_time : goal.returns-then-not-is_in_time
 returns-then-not-is_in_time c =
-    step_refused c.args.steps.now c.loop-step.step-index _ c.step-item.result c.in-Some.event c.loop-step.events.items c.ended.result c.loop-step-test.true c.step-item.is c.in-Some.ensures (sym c.if-not-is_in_time.ensures) c.loop-step.invariant c.ended.ensures c.requires.units c.requires.rising
+    λ program has. step_refused program c.args.steps.now has c.loop-step.step-index _ c.step-item.result c.in-Some.event c.loop-step.events.items c.ended.result c.loop-step-test.true c.step-item.is c.in-Some.ensures (sym c.if-not-is_in_time.ensures) c.loop-step.invariant c.ended.ensures c.requires.units c.requires.rising
 
 pub loop-step-preserved : goal.loop-step-preserved
 loop-step-preserved c =
@@ -31,4 +31,4 @@ loop-step-preserved c =
 
 pub returns : goal.returns
 returns c =
-    steps_end c.args.steps.now c.loop-step.step-index _ c.loop-step.events.items c.ended-2.result c.loop-step-test.false c.loop-step.invariant c.ended-2.ensures c.requires.units c.requires.rising
+    λ program has. steps_end program c.args.steps.now has c.loop-step.step-index _ c.loop-step.events.items c.ended-2.result c.loop-step-test.false c.loop-step.invariant c.ended-2.ensures c.requires.units c.requires.rising

@@ -1,0 +1,78 @@
+-- What a program is to `sim`, and the rule on the next output.
+use Rattle.std.specs.Prelude.{◌≡◌, ◌≤◌, ◌<◌, is_some, ℕ, List, [], ◌∷◌, Bool, true, ◌&&◌, pos, int_lt, int_le, IsTrue, Option, Some, None}
+use Rattle.rtio_types.specs.Time.{coarse_of}
+use Rattle.rtio_types.specs.declared.event.Event.{Event}
+use Rattle.kern_syntax.specs.Tree.{Block, done, ProgramTree}
+use Rattle.artiq_sim.specs.declared.straight.Form.{Form}
+use Rattle.artiq_sim.specs.declared.straight.Form.TheVariants as F
+use Rattle.artiq_sim.specs.declared.step.Step.{Step}
+use Rattle.kern_syntax.specs.Nodes.{program_nodes, shown}
+use Rattle.artiq_sim.specs.declared.answer.Answer.{Answer}
+use Rattle.artiq_sim.specs.declared.answer.Answer.TheVariants.{Report, Refused}
+use Rattle.artiq_sim.specs.Report.{report_text}
+use Rattle.artiq_sim.specs.Texts.{max_nodes, code_line, form_line}
+use Rattle.artiq_sim.specs.Runs.{cycles_rise, Run, IsRun}
+use Rattle.artiq_sim.specs.Steps.{AreSteps, HasSteps, outputs_from}
+use Rattle.artiq_sim.specs.Straight.{wrong_line, wrong_line_behind}
+
+-- the last of some events
+abbrev pub last_of : List Event → Option Event
+last_of [] = None
+last_of (event ∷ []) = Some event
+last_of (event ∷ next ∷ events) = last_of (next ∷ events)
+
+-- an event's cycle is greater than that of an earlier one
+abbrev pub is_after : Option Event → Event → Bool
+is_after None event = true
+is_after (Some last) event = int_lt (coarse_of last.stamp) (coarse_of event.stamp)
+
+-- an output obeys the rule on cycles behind the last one
+abbrev pub may_follow : Option Event → Option Event → Bool
+may_follow last None = true
+may_follow last (Some event) = is_after last event && int_le (coarse_of event.stamp) (pos 134217728)
+
+-- the last output after one more step
+abbrev pub latest : Option Event → Option Event → Option Event
+latest last None = last
+latest last (Some event) = Some event
+
+-- a straight program's steps
+pub record IsStraight (program : ProgramTree) (steps : List Step) : Type 0 where
+  pub none_wrong : wrong_line program ≡ None
+  pub has_steps : HasSteps program steps
+  pub rising : IsTrue (cycles_rise (outputs_from (pos 0) steps))
+
+-- a program has these steps, or is wrong at this line first
+abbrev pub IsFormOf : ProgramTree → Form → Type 0
+IsFormOf program (F.Straight steps) = IsStraight program steps.items
+IsFormOf program (F.Wrong line) = wrong_line program ≡ Some line
+
+-- a straight body's steps
+pub record IsStraightBody (body : Block) (steps : List Step) : Type 0 where
+  pub none_wrong : wrong_line_behind done body ≡ None
+  pub are_steps : AreSteps body steps
+  pub rising : IsTrue (cycles_rise (outputs_from (pos 0) steps))
+
+-- the same of the body of a program's first function
+abbrev pub IsFormOfBody : Block → Form → Type 0
+IsFormOfBody body (F.Straight steps) = IsStraightBody body steps.items
+IsFormOfBody body (F.Wrong line) = wrong_line_behind done body ≡ Some line
+
+-- why a program is refused, and the line that says so
+pub data IsProgramRefused (program : ProgramTree) (told : List ℕ) : Type 0 where
+  large : max_nodes < program_nodes program → told ≡ code_line (shown (program_nodes program)) → IsProgramRefused program told
+  wrong : program_nodes program ≤ max_nodes → (line : ℕ) → wrong_line program ≡ Some line → told ≡ form_line line → IsProgramRefused program told
+
+-- the report of a straight program's run
+pub record IsProgramReport (program : ProgramTree) (written : List ℕ) (has_raised : Bool) : Type 0 where
+  pub small : program_nodes program ≤ max_nodes
+  pub straight : wrong_line program ≡ None
+  pub run : Run
+  pub is_run : IsRun program run
+  pub report : written ≡ report_text run
+  pub raised : has_raised ≡ is_some run.raised
+
+-- the answer to a program
+abbrev pub IsAnswerToProgram : ProgramTree → Answer → Type 0
+IsAnswerToProgram program (Report bytes has_raised) = IsProgramReport program bytes.items has_raised
+IsAnswerToProgram program (Refused told) = IsProgramRefused program told.items
