@@ -1,0 +1,7 @@
+mod Examples
+pub mod Histories
+pub mod Cycles
+pub mod OneCycle
+mod Summing
+mod Placing
+mod SortedOut

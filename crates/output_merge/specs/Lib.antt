@@ -1,0 +1,6 @@
+pub mod Live
+pub mod Groups
+pub mod Outputs
+pub mod Merge
+pub mod Summaries
+pub mod Places

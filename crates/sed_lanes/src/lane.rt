@@ -1,0 +1,130 @@
+// One lane, in the room that it got when it was made.
+
+ghost use Rattle.std.specs.Prelude.{◌≡◌, ◌≤◌, ◌<◌, ◌+◌, ◌^◌, [], ◌∷◌, ◌++◌, IfOk, IsTrue, Some, None, filter, length, nat_le, ◌==◌, not, option_to_list};
+ghost use Rattle.std.specs.List.{list_all};
+ghost use Rattle.std.specs.VecDeque.{deque_capacity, deque_len};
+ghost use Rattle.rtio_types.specs.Time.{cycle_of};
+ghost use Rattle.sed_lanes.specs.Lanes.{is_later};
+ghost use Rattle.sed_lanes.specs.Rows.{are_rising, row_state};
+ghost use Rattle.sed_lanes.specs.Verdict.{frees_at};
+
+use crate::heads::Heads;
+use rtio_types::{Event, coarse};
+use std::alloc::{AllocError, Global};
+use std::collections::VecDeque;
+
+/// The events that a lane holds, with their submission numbers, first come first, and the cycle of the last event that
+/// it took, held or not.
+#[derive(Debug, Drop)]
+pub struct Lane {
+    pub held: VecDeque<(u64, Event)>,
+    pub last: Option<u64>,
+}
+
+/// The cycle of an event; one before cycle 0 counts as 0.
+pub fn cycle_of(event: &Event) -> u64
+    ensures cycle { result ≡ cycle_of event.now }
+    ensures small { result < 2 ^ 60 }
+{
+    coarse(event.stamp).max(0) as u64
+}
+
+impl Lane {
+    /// A lane that took nothing yet, with room for `depth` events.
+    pub fn with_room(alloc: Global, depth: u32) -> Result<Lane, AllocError>
+        ensures state { IfOk result (λ lane. row_state lane ≡ record { held = []; last = None }) }
+        ensures room { IfOk result (λ lane. deque_capacity lane.held ≡ depth) }
+    {
+        Ok(Lane {
+            held: VecDeque::with_capacity(alloc, depth as usize)?,
+            last: None,
+        })
+    }
+
+    /// Whether the lane holds as many events as it may.
+    pub fn is_full(&self, depth: u32) -> bool
+        ensures { result ≡ nat_le depth (length self.now.held.items) }
+    {
+        depth as usize <= self.held.len()
+    }
+
+    /// Whether an event of this cycle is later than the last one that the lane took.
+    pub fn may_enter(&self, cycle: u64) -> bool
+        ensures { result ≡ is_later self.now.last cycle }
+    {
+        match self.last {
+            None => true,
+            Some(last) => last < cycle,
+        }
+    }
+
+    /// The cycle of the first held event, which frees a place; 0 if none is held.
+    pub fn frees_at(&self) -> u64
+        ensures { result ≡ frees_at (row_state self.now) }
+    {
+        match self.held.front() {
+            None => 0,
+            Some((_, event)) => cycle_of(event),
+        }
+    }
+
+    /// Takes an event behind those that it holds.
+    pub fn accept(&mut self, number: u64, event: Event)
+        requires { deque_len self.old.held < deque_capacity self.old.held }
+        ensures held { self.new.held.items ≡ self.old.held.items ++ (number, event) ∷ [] }
+        ensures last { self.new.last ≡ Some (cycle_of event) }
+        ensures small { cycle_of event < 2 ^ 60 }
+        ensures room { deque_capacity self.new.held ≡ deque_capacity self.old.held }
+    {
+        self.held.push_back_reserved((number, event));
+        self.last = Some(cycle_of(&event));
+    }
+
+    /// Takes the event of this cycle out, if the lane holds one.
+    pub fn take_at(&mut self, cycle: u64) -> Option<(u64, Event)>
+        requires rising { IsTrue (are_rising self.old.held.items) }
+        requires none_earlier { IsTrue (list_all (λ p. nat_le cycle (cycle_of p.1)) self.old.held.items) }
+        ensures taken { option_to_list result ≡ filter (λ p. cycle_of p.1 == cycle) self.old.held.items }
+        ensures left { self.new.held.items ≡ filter (λ p. not (cycle_of p.1 == cycle)) self.old.held.items }
+        ensures last { self.new.last ≡ self.old.last }
+        ensures room { deque_capacity self.new.held ≡ deque_capacity self.old.held }
+    {
+        if self.frees_at() == cycle {
+            self.held.pop_front()
+        } else {
+            None
+        }
+    }
+
+    /// Moves the event of this cycle out, if the lane holds one.
+    pub fn drain_into(&mut self, cycle: u64, into: &mut Heads)
+        requires rising { IsTrue (are_rising self.old.held.items) }
+        requires none_earlier { IsTrue (list_all (λ p. nat_le cycle (cycle_of p.1)) self.old.held.items) }
+        requires room { 0 < into.old.room }
+        ensures moved { into.new.items ≡ into.old.items ++ filter (λ p. cycle_of p.1 == cycle) self.old.held.items }
+        ensures space { into.new.room + length into.new.items ≡ into.old.room + length into.old.items }
+        ensures few { length into.new.items ≤ length into.old.items + 1 }
+        ensures left { self.new.held.items ≡ filter (λ p. not (cycle_of p.1 == cycle)) self.old.held.items }
+        ensures last { self.new.last ≡ self.old.last }
+        ensures room { deque_capacity self.new.held ≡ deque_capacity self.old.held }
+    {
+        match self.take_at(cycle) {
+            Some((number, event)) => into.push(number, event),
+            None => (),
+        }
+    }
+
+    /// Takes all held events out, first come first, and forgets the last cycle.
+    pub fn empty_into(&mut self, into: &mut Heads)
+        requires { length self.old.held.items ≤ into.old.room }
+        ensures state { row_state self.new ≡ record { held = []; last = None } }
+        ensures moved { into.new.items ≡ into.old.items ++ self.old.held.items }
+        ensures left { into.new.room + length self.old.held.items ≡ into.old.room }
+        ensures room { deque_capacity self.new.held ≡ deque_capacity self.old.held }
+    {
+        self.last = None;
+        while let Some((number, event)) = self.held.pop_front() {
+            into.push(number, event);
+        }
+    }
+}

@@ -1,0 +1,14 @@
+//! Lanes of events with strictly rising cycles, as a scalable event dispatcher has them (ARTIQ manual, "RTIO"): which
+//! lane takes an event, which event is out of sequence, and which has to wait until a lane has room.
+#![tactic(auto)]
+
+mod heads;
+mod lane;
+mod lanes;
+mod laws;
+#[cfg(test)]
+mod tests;
+
+pub use heads::Heads;
+pub use lanes::{Lanes, Place};
+pub use laws::{a_later_event_is_in_sequence, decided_stays_decided};
