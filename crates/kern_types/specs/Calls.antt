@@ -6,6 +6,8 @@ use Rattle.rtio_types.specs.declared.board.ChannelKind.{ChannelKind}
 use Rattle.rtio_types.specs.declared.board.ChannelKind.TheVariants as K
 use Rattle.rtio_types.specs.Board.{channel_of_name, kind_of_channel}
 use Rattle.kern_syntax.specs.Tree.{Bytes}
+use Rattle.kern_types.specs.declared.place.Wanted.{Wanted}
+use Rattle.kern_types.specs.declared.place.Wanted.TheVariants as W
 
 -- the functions of the language itself
 pub data Builtin : Type 0 where
@@ -22,7 +24,7 @@ pub data Operation : Type 0 where
 -- what a name stands for in a table, if it is there
 abbrev pub look_up : {A : Type 0} → List (Bytes × A) → Bytes → Option A
 look_up [] name = None
-look_up (entry ∷ rest) name = if bytes_eq entry.0 name then Some entry.1 else look_up rest name
+look_up (entry ∷ rest) name = if bytes_eq name entry.0 then Some entry.1 else look_up rest name
 
 -- the language's own functions by their names
 abbrev pub builtins : List (Bytes × Builtin)
@@ -110,7 +112,32 @@ operation_result counter = Some Int64
 operation_result get_handle = Some Int64
 operation_result _ = None
 
--- a call that asks the core and may not stand in a recording
+-- what a builtin takes
+abbrev pub builtin_takes : Builtin → List Wanted
+builtin_takes now_mu = []
+builtin_takes set_dataset = W.Text ∷ W.Int64OrArray ∷ []
+builtin_takes len = W.Array ∷ []
+builtin_takes _ = W.Int64 ∷ []
+
+-- what a method takes
+abbrev pub operation_takes : Operation → List Wanted
+operation_takes (on c) = []
+operation_takes (off c) = []
+operation_takes (write c) = W.Int32 ∷ W.Int32 ∷ []
+operation_takes counter = []
+operation_takes break_realtime = []
+operation_takes reset = []
+operation_takes playback = W.Text ∷ []
+operation_takes get_handle = W.Text ∷ []
+operation_takes erase = W.Text ∷ []
+operation_takes _ = W.Int64 ∷ []
+
+-- a builtin that asks the core for more than outputs and may not stand in a recording
+abbrev pub builtin_is_live : Builtin → Bool
+builtin_is_live set_dataset = true
+builtin_is_live _ = false
+
+-- a method that asks the core for more than outputs and may not stand in a recording
 abbrev pub is_live : Operation → Bool
 is_live (on c) = false
 is_live (off c) = false

@@ -1,0 +1,119 @@
+-- The further branches of an `if`, and its `else`.
+use Rattle.std.proofs.Common.{rules, ◌≡◌, List, [], ◌∷◌, Option, None, Result, option_map, refl, sym, ap, subst, ◌∙◌}
+use Rattle.std.specs.Prelude.{⊤}
+use Rattle.kern_syntax.specs.declared.statement.Elif.{Elif}
+use Rattle.kern_syntax.specs.declared.statement.Block.{Block}
+use Rattle.kern_syntax.specs.declared.statement.StmtKind.TheFolds.{the_lemmas}
+use Rattle.kern_syntax.specs.Tree.{Expression, Otherwise, no_else, else_do, elif_then, if_then}
+use Rattle.kern_syntax.specs.Tree
+use Rattle.kern_syntax.specs.TreeOf.{block_of, elif_of, branches_of, else_of}
+use Rattle.kern_types.specs.declared.fault.TypeEnd.{TypeEnd}
+use Rattle.kern_types.specs.declared.fault.TypeEnd.TheVariants as E
+use Rattle.kern_types.specs.declared.place.Place.{Place}
+use Rattle.kern_types.specs.Answers.{Leaves, IsEndOf}
+use Rattle.kern_types.specs.Before.{Functions}
+use Rattle.kern_types.specs.Expressions.{condition_verdict}
+use Rattle.kern_types.specs.Statements.{at_line, block_verdict, branches_verdict, statement_verdict}
+use Rattle.kern_types.specs.Types.{Names}
+use Rattle.kern_types.specs.Verdicts.{Verdict, well, fault, ◌>>=◌, ◌>>◌}
+
+-- what follows what follows
+pub bind-assoc : {A B C : Type 0} (v : Verdict A) (f : A → Verdict B) (g : B → Verdict C) → ((v >>= f) >>= g) ≡ (v >>= (λ a. f a >>= g))
+bind-assoc (well a) f g = refl
+bind-assoc (fault line kind) f g = refl
+
+-- two continuations that agree
+bind-same : {A B : Type 0} (v : Verdict A) (f g : A → Verdict B) → ((a : A) → f a ≡ g a) → (v >>= f) ≡ (v >>= g)
+bind-same (well a) f g same = same a
+bind-same (fault line kind) f g same = refl
+
+-- an end stays the end
+pub end-then : {A B : Type 0} (end : TypeEnd) (v : Verdict A) (next : A → Verdict B) → IsEndOf end v → IsEndOf end (v >>= next)
+end-then (E.Fault line kind) v next is = rw is refl
+end-then E.Memory v next is = tt
+
+-- what a function leaves after a part that has no fault
+pub leaves-then : {A B : Type 0} (r : Result ⊤ TypeEnd) (left : B) (v : Verdict A) (a : A) (next : A → Verdict B) → v ≡ well a → Leaves r left (next a) → Leaves r left (v >>= next)
+leaves-then r left v a next found last = rw found last
+
+-- what a function leaves, of the same verdict
+pub leaves-same : {A : Type 0} (r : Result ⊤ TypeEnd) (left : A) (v w : Verdict A) → v ≡ w → Leaves r left v → Leaves r left w
+leaves-same r left v w same last = subst (Leaves r left) same last
+
+-- branches with something at their end
+abbrev pub with_end : Otherwise → Otherwise → Otherwise
+with_end no_else end = end
+with_end (else_do body) end = else_do body
+with_end (elif_then line condition body rest) end = elif_then line condition body (with_end rest end)
+
+-- branches without an `else`
+abbrev pub IsOpen : Otherwise → Type 0
+IsOpen no_else = Unit {0}
+IsOpen (else_do body) = ⊥
+IsOpen (elif_then line condition body rest) = IsOpen rest
+
+-- a branch before others keeps their end
+pub elif-end : (branch : Elif) (rest end : Otherwise) → elif_of branch (with_end rest end) ≡ with_end (elif_of branch rest) end
+elif-end branch rest end = search (rules, the_lemmas)
+
+pub elif-open : (branch : Elif) (rest : Otherwise) → IsOpen rest → IsOpen (elif_of branch rest)
+elif-open branch rest is = search (rules, the_lemmas)
+
+pub branches_of-end : (branches : List Elif) (last : Option Block) → branches_of branches last ≡ with_end (branches_of branches None) (else_of (option_map block_of last))
+branches_of-end [] last = refl
+branches_of-end (branch ∷ rest) last = ap (elif_of branch) (branches_of-end rest last) ∙ elif-end branch (branches_of rest None) (else_of (option_map block_of last))
+
+pub open-branches : (branches : List Elif) → IsOpen (branches_of branches None)
+open-branches [] = tt
+open-branches (branch ∷ rest) = elif-open branch (branches_of rest None) (open-branches rest)
+
+module _ (functions : Functions) (place : Place) where
+  -- what stands at the end of branches comes last
+  verdict-with_end : (rest end : Otherwise) (names : Names) → IsOpen rest → branches_verdict functions (with_end rest end) place names ≡ (branches_verdict functions rest place names >>= (λ after. branches_verdict functions end place after))
+  verdict-with_end no_else end names open_ = refl
+  verdict-with_end (else_do body) end names open_ = absurd open_
+  verdict-with_end (elif_then line condition body rest) end names open_ =
+      let branch = condition_verdict functions (at_line place line) names condition >> block_verdict functions body place names in
+      bind-same branch _ _ (λ after. verdict-with_end rest end after open_) ∙ sym (bind-assoc branch (λ after. branches_verdict functions rest place after) (λ after. branches_verdict functions end place after))
+
+  -- an `else` comes after the branches
+  pub branches_verdict-else : (names : Names) (branches : List Elif) (last : Option Block) → branches_verdict functions (branches_of branches last) place names ≡ (branches_verdict functions (branches_of branches None) place names >>= (λ after. branches_verdict functions (else_of (option_map block_of last)) place after))
+  branches_verdict-else names branches last =
+      ap (λ rest. branches_verdict functions rest place names) (branches_of-end branches last) ∙ verdict-with_end (branches_of branches None) (else_of (option_map block_of last)) names (open-branches branches)
+
+  -- a branch comes before the others
+  branches_verdict-first : (names : Names) (branch : Elif) (rest : Otherwise) → branches_verdict functions (elif_of branch rest) place names ≡ (branches_verdict functions (elif_of branch no_else) place names >>= (λ after. branches_verdict functions rest place after))
+  branches_verdict-first names branch rest =
+      ap (λ branches. branches_verdict functions branches place names) (elif-end branch no_else rest) ∙ verdict-with_end (elif_of branch no_else) rest names (elif-open branch no_else tt)
+
+  -- a branch without a fault is behind
+  pub branch-read : (names after : Names) (branch : Elif) (rest : Otherwise) (whole : Verdict Names) → whole ≡ branches_verdict functions (elif_of branch rest) place names → branches_verdict functions (elif_of branch no_else) place names ≡ well after → whole ≡ branches_verdict functions rest place after
+  branch-read names after branch rest whole is first =
+      is ∙ branches_verdict-first names branch rest ∙ ap (λ v. v >>= (λ after. branches_verdict functions rest place after)) first
+
+  -- the fault of a branch is that of all
+  pub branch-ended : (end : TypeEnd) (names : Names) (branch : Elif) (rest : Otherwise) (whole : Verdict Names) → whole ≡ branches_verdict functions (elif_of branch rest) place names → IsEndOf end (branches_verdict functions (elif_of branch no_else) place names) → IsEndOf end whole
+  branch-ended end names branch rest whole is ended =
+      subst (IsEndOf end) (sym (is ∙ branches_verdict-first names branch rest)) (end-then end (branches_verdict functions (elif_of branch no_else) place names) (λ after. branches_verdict functions rest place after) ended)
+
+  -- a fault of a branch
+  pub otherwise-ended : (end : TypeEnd) (names : Names) (branches : List Elif) (last : Option Block) → IsEndOf end (branches_verdict functions (branches_of branches None) place names) → IsEndOf end (branches_verdict functions (branches_of branches last) place names)
+  otherwise-ended end names branches last ended =
+      subst (IsEndOf end) (sym (branches_verdict-else names branches last)) (end-then end (branches_verdict functions (branches_of branches None) place names) (λ after. branches_verdict functions (else_of (option_map block_of last)) place after) ended)
+
+  -- what an `else` leaves behind branches without a fault
+  pub otherwise-then : (r : Result ⊤ TypeEnd) (left names after : Names) (branches : List Elif) (last : Option Block) → branches_verdict functions (branches_of branches None) place names ≡ well after → Leaves r left (branches_verdict functions (else_of (option_map block_of last)) place after) → Leaves r left (branches_verdict functions (branches_of branches last) place names)
+  otherwise-then r left names after branches last front ends =
+      leaves-same r left _ _ (sym (branches_verdict-else names branches last)) (leaves-then r left (branches_verdict functions (branches_of branches None) place names) after (λ names. branches_verdict functions (else_of (option_map block_of last)) place names) front ends)
+
+  -- a fault of a branch of an `if`
+  pub if-ended : (end : TypeEnd) (names one : Names) (condition : Expression) (body : Tree.Block) (branches : List Elif) (last : Option Block) → condition_verdict functions place names condition ≡ well tt → block_verdict functions body place names ≡ well one → IsEndOf end (branches_verdict functions (branches_of branches None) place one) → IsEndOf end (statement_verdict functions (if_then condition body (branches_of branches last)) place names)
+  if-ended end names one condition body branches last holds first ended =
+      let later : IsEndOf end (branches_verdict functions (branches_of branches last) place one) = otherwise-ended end one branches last ended in
+      subst (λ v. IsEndOf end (v >>= (λ a. block_verdict functions body place names >>= (λ after. branches_verdict functions (branches_of branches last) place after)))) (sym holds) (subst (λ v. IsEndOf end (v >>= (λ after. branches_verdict functions (branches_of branches last) place after))) (sym first) later)
+
+  -- what the `else` of an `if` leaves
+  pub if-then : (r : Result ⊤ TypeEnd) (left names one two : Names) (condition : Expression) (body : Tree.Block) (branches : List Elif) (last : Option Block) → condition_verdict functions place names condition ≡ well tt → block_verdict functions body place names ≡ well one → branches_verdict functions (branches_of branches None) place one ≡ well two → Leaves r left (branches_verdict functions (else_of (option_map block_of last)) place two) → Leaves r left (statement_verdict functions (if_then condition body (branches_of branches last)) place names)
+  if-then r left names one two condition body branches last holds first front ends =
+      let later : Leaves r left (branches_verdict functions (branches_of branches last) place one) = otherwise-then r left one two branches last front ends in
+      leaves-then r left (condition_verdict functions place names condition) tt (λ a. block_verdict functions body place names >>= (λ after. branches_verdict functions (branches_of branches last) place after)) holds (leaves-then r left (block_verdict functions body place names) one (λ after. branches_verdict functions (branches_of branches last) place after) first later)

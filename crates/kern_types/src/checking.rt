@@ -1,0 +1,56 @@
+// The checker of kernels.
+
+ghost use Rattle.std.specs.Prelude.{◌≡◌, IfOk, IfErr, OnOk};
+ghost use Rattle.kern_syntax.specs.TreeOf.{tree_of};
+ghost use Rattle.kern_types.specs.Answers.{IsEndOf};
+ghost use Rattle.kern_types.specs.Programs.{IsTyped, program_verdict};
+
+use crate::fault::TypeEnd;
+use crate::program::check_functions;
+use kern_syntax::Program;
+use std::alloc::Global;
+use std::marker::Model;
+
+/// A program that is typed, which contracts see as its functions.
+#[derive(Drop)]
+pub struct Checked {
+    program: Program,
+}
+
+impl Model for Checked {
+    ghost use Rattle.std.specs.Prelude.{List};
+    ghost use Rattle.kern_syntax.specs.declared.program.Function.{Function};
+    ghost use Rattle.kern_syntax.specs.contracts.statement.Block as block;
+    ghost use Rattle.kern_syntax.specs.TreeOf.{tree_of};
+    ghost use Rattle.kern_types.specs.Programs.{IsTyped};
+    ghost use Rattle.std.specs.Coded.{codes};
+
+    ghost Value = { List Function };
+
+    ghost coded = { Prim.hlevel (codes, block.the_row.coded) };
+
+    ghost view = { λ c. c.program };
+
+    ghost invariant = { λ c. IsTyped (tree_of c.program) };
+}
+
+/// Checks the types of a program, by the rules of `docs/LANGUAGE.md`, and keeps it. Else the first fault in the order
+/// of evaluation is told with its line, or memory ran out.
+pub fn check(alloc: Global, program: Program) -> Result<Checked, TypeEnd>
+    ensures kept { IfOk result (λ checked. checked ≡ program) }
+    ensures typed { OnOk result (IsTyped (tree_of program)) }
+    ensures fault { IfErr result (λ end. IsEndOf end (program_verdict (tree_of program))) }
+{
+    check_functions(alloc, program.functions())?;
+    Ok(Checked { program })
+}
+
+impl Checked {
+    /// The program.
+    pub fn program(&self) -> &Program
+        ensures kept { result.now ≡ self.now }
+        ensures typed { IsTyped (tree_of result.now) }
+    {
+        &self.program
+    }
+}

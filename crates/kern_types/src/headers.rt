@@ -1,0 +1,88 @@
+// The types of functions: their parameters and their bodies.
+
+ghost use Rattle.std.specs.Prelude.{◌≡◌, map};
+ghost use Rattle.kern_syntax.specs.TreeOf.{parameter_of, function_of};
+ghost use Rattle.kern_types.specs.Answers.{Leaves, Passes};
+ghost use Rattle.kern_types.specs.KnownOf.{functions_of};
+ghost use Rattle.kern_types.specs.Programs.{body_place, body_verdict, parameter_verdict, parameters_verdict};
+
+use crate::blocks::check_block;
+use crate::fault::{TypeEnd, TypeKind};
+use crate::fits::{declared_type, refuse_if};
+use crate::known::Known;
+use crate::names::Locals;
+use crate::place::Place;
+use kern_syntax::{Function, Parameter};
+use std::alloc::Global;
+
+/// The most parameters of a function.
+const MOST_PARAMETERS: usize = 8;
+
+/// Checks the parameters and the body of a function.
+pub fn check_body(alloc: Global, known: &Known<'_>, function: &Function) -> Result<(), TypeEnd>
+    ensures { Passes result (body_verdict (functions_of known.now) (function_of function.now)) }
+{
+    let mut names = Locals::new(alloc);
+    let parameters = function.parameters.items();
+    check_parameters(alloc, known, function.line, &mut names, parameters)?;
+    check_block(
+        alloc,
+        known,
+        body_place(function),
+        &mut names,
+        &function.body,
+    )?;
+    Ok(())
+}
+
+// The place of a function's body.
+fn body_place(function: &Function) -> Place
+    ensures { result ≡ body_place (function_of function.now) }
+{
+    Place {
+        line: function.line,
+        result: function.result,
+        in_loop: false,
+        may_return: true,
+        in_record: false,
+    }
+}
+
+fn check_parameters(
+    alloc: Global,
+    known: &Known<'_>,
+    line: u32,
+    names: &mut Locals,
+    parameters: &[Parameter],
+) -> Result<(), TypeEnd>
+    ensures { Leaves result names.new (parameters_verdict (functions_of known.now) line (map parameter_of parameters.now) names.old) }
+{
+    for parameter in parameters.iter() {
+        check_parameter(alloc, known, line, names, parameter)?;
+    }
+    Ok(())
+}
+
+fn check_parameter(
+    alloc: Global,
+    known: &Known<'_>,
+    line: u32,
+    names: &mut Locals,
+    parameter: &Parameter,
+) -> Result<(), TypeEnd>
+    ensures { Leaves result names.new (parameter_verdict (functions_of known.now) line (parameter_of parameter.now) names.old) }
+{
+    let name = parameter.name.bytes();
+    let declared = declared_type(parameter.declared);
+    match names.get(name) {
+        Some(_) => Err(TypeEnd::Fault {
+            line,
+            kind: TypeKind::Name,
+        }),
+        None => {
+            refuse_if(known.is_taken(name), line, TypeKind::Name)?;
+            refuse_if(names.len() >= MOST_PARAMETERS, line, TypeKind::Size)?;
+            names.add(alloc, name, declared)
+        }
+    }
+}
