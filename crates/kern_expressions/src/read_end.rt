@@ -5,10 +5,12 @@ ghost use Rattle.std.specs.Prelude.{◌≡◌};
 use crate::tokens::Tokens;
 use std::alloc::{AllocError, AllocFailed};
 
-/// Why reading stopped: the tokens from the first wrong one on, or want of memory.
+/// Why reading stopped.
 #[derive(Clone, Copy)]
 pub enum ReadEnd<'a> {
+    /// The tokens from the first wrong one on.
     Fault(Tokens<'a>),
+    /// Memory was refused.
     Memory,
 }
 

@@ -9,7 +9,9 @@ use kern_lexer::Token;
 /// can have.
 #[derive(Clone, Copy)]
 pub struct Tokens<'a> {
+    /// The whole text.
     pub text: &'a [u8],
+    /// The tokens, in the order of the text.
     pub list: &'a [Token],
     ghost spelled: { IsTrue (are_spelled text.now list.now) },
 }

@@ -33,13 +33,10 @@ pub mod PlanReads
 pub mod PrefixLevels
 pub mod PrefixReads
 pub mod Prefixes
-pub mod Printing
 pub mod ProgramReads
-pub mod ReadingRows
 pub mod RowFaults
 pub mod RowReads
 pub mod RowTrees
-pub mod Rows
 pub mod Seen
 pub mod SimpleFrom
 pub mod SimpleInto

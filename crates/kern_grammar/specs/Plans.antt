@@ -16,10 +16,6 @@ abbrev pub ◌>>=◌ : {A B : Type 0} → Taken A → (A × List Lexeme → Take
 (Ok x) >>= f = f x
 (Err left) >>= f = Err left
 
--- sets of token lists, by what they stand for
-abbrev pub PhraseOf : Type 0 → Type 1
-PhraseOf A = A → List Lexeme → Type 0
-
 -- A plan: what is read is there; a token that is seen as something; a look at the next token, which stays; a part that another taker reads; a last part
 pub data Plan (A : Type 0) : Type 1 where
   done : A → Plan A

@@ -6,19 +6,12 @@ use Rattle.kern_lexer.specs.Bytes.{Bytes}
 use Rattle.kern_syntax.specs.Tree.{Expression, if_then, while_do, try_do, line_then}
 use Rattle.kern_syntax.specs.Tree as Tree
 use Rattle.kern_syntax.specs.TreeOf.{elif_of, handler_of}
-use Rattle.kern_grammar.specs.BlockPlans.{line_phrase, line_stop, is_line, block_of_lines, block_plan, a_block, ElifLine, branches_plan, ExceptLine, handlers_plan, with_plan, range_plan, line_plan}
+use Rattle.kern_grammar.specs.BlockPlans.{line_phrase, line_stop, is_line, block_of_lines, a_block, ElifLine, branches_plan, ExceptLine, handlers_plan, with_plan, range_plan, line_plan}
 use Rattle.kern_parser.specs.declared.headers.WithItem.{WithItem}
 use Rattle.kern_parser.specs.declared.headers.WithItem.TheVariants as W
-use Rattle.kern_grammar.specs.Plans.{Taken, Taker, ◌>>=◌, Plan, done, token, part, run, many, EachOf, EachEnds}
+use Rattle.kern_grammar.specs.Plans.{Taken, ◌>>=◌, Plan, done, token, part, run, many, EachOf, EachEnds}
 use Rattle.kern_grammar.specs.SimplePlans.{an_expression, Line}
 use Rattle.kern_grammar.specs.Views.{dedented, indented, in_key, a_name, the_name, open_parenthesis, comma_or_close, a_with_item}
-
--- taking a statement, and a block, with room for so many blocks inside
-abbrev pub take_line : (room : ℕ) → Taker Line
-take_line room tokens = run (line_plan room) tokens
-
-abbrev pub take_block : (room : ℕ) → Taker Tree.Block
-take_block room tokens = run (block_plan room (run (line_plan room))) tokens
 
 -- one line as a block
 abbrev pub as_block : ℕ → Tree.Statement → Tree.Block

@@ -22,6 +22,7 @@ use std::alloc::{AllocError, Global};
 pub enum SyntaxEnd {
     /// The tokens before this one, counted from 0, begin an accepted list, and those through it don't.
     Fault { token: u32 },
+    /// Memory was refused.
     Memory,
 }
 
