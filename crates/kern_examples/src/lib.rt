@@ -1,9 +1,11 @@
-//! Texts of kernels beside their canonical texts and their first wrong tokens, worked out by hand
-//! from the grammar. The crate has tests alone: the crates that they go through aren't proved
-//! again with them.
+//! Texts of kernels beside their canonical texts, their first wrong tokens and their first faults of
+//! types, worked out by hand from the grammar and the rules of the types. The crate has tests alone:
+//! the crates that they go through aren't proved again with them.
 #![tactic(auto)]
 
 #[cfg(test)]
 mod faults;
 #[cfg(test)]
 mod texts;
+#[cfg(test)]
+mod types;

@@ -1,5 +1,5 @@
 -- The verdict on a program: its functions in the order of the text, and then that there is a `main`.
-use Rattle.std.specs.Prelude.{ℕ, List, [], ◌∷◌, ◌++◌, length, Bool, true, false, not, ◌||◌, nat_le, ◌==◌, IsTrue, Option, Some, None, is_some, codes}
+use Rattle.std.specs.Prelude.{ℕ, List, [], ◌∷◌, ◌++◌, length, Bool, true, false, not, ◌||◌, nat_le, ◌==◌, bytes_eq, position, IsTrue, Option, Some, None, is_some, codes}
 use Rattle.kern_syntax.specs.Tree.{Bytes, ParameterTree, FunctionTree, ProgramTree}
 use Rattle.kern_types.specs.declared.place.Place.{Place}
 use Rattle.kern_types.specs.declared.fault.TypeKind.TheVariants as K
@@ -58,6 +58,10 @@ function_verdict program earlier plain f = do
 abbrev pub has_main : Option FunctionTree → Bool
 has_main None = false
 has_main (Some f) = length f.parameters == 0
+
+-- the place of the function of this name in the text, from 0
+abbrev pub place_of_function : ProgramTree → Bytes → Option ℕ
+place_of_function program name = position (λ f. bytes_eq name f.name) program
 
 -- the program has a `main` without parameters; else line 1 has the fault
 abbrev pub main_verdict : ProgramTree → Verdict (Unit {0})

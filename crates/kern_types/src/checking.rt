@@ -1,13 +1,13 @@
 // The checker of kernels.
 
-ghost use Rattle.std.specs.Prelude.{◌≡◌, IfOk, IfErr, OnOk};
+ghost use Rattle.std.specs.Prelude.{◌≡◌, IfOk, IfErr, OnOk, position, bytes_eq};
 ghost use Rattle.kern_syntax.specs.TreeOf.{tree_of};
 ghost use Rattle.kern_types.specs.Answers.{IsEndOf};
-ghost use Rattle.kern_types.specs.Programs.{IsTyped, program_verdict};
+ghost use Rattle.kern_types.specs.Programs.{IsTyped, program_verdict, place_of_function};
 
 use crate::fault::TypeEnd;
 use crate::program::check_functions;
-use kern_syntax::Program;
+use kern_syntax::{Function, Program};
 use std::alloc::Global;
 use std::marker::Model;
 
@@ -53,4 +53,21 @@ impl Checked {
     {
         &self.program
     }
+
+    /// The place of the function of a name in the order of the text, from 0; none exactly where no function has it.
+    pub fn function(&self, name: &[u8]) -> Option<u32>
+        ensures { result ≡ place_of_function (tree_of self.now) name.now }
+    {
+        let place = place_of(self.program.functions(), name)?;
+        Some(place as u32)
+    }
+}
+
+// The place of the first function of a name.
+fn place_of(functions: &[Function], name: &[u8]) -> Option<usize>
+    ensures { result ≡ position (λ f. bytes_eq name.now f.name) functions.now }
+{
+    functions
+        .iter()
+        .position(|function| name == function.name.bytes())
 }
