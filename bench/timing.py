@@ -1,4 +1,4 @@
-"""What the benchmarks share: the built program beside python3, which parses the same text."""
+"""What the benchmarks share: the built program beside python3, which reads the same text."""
 
 import os
 import resource
@@ -9,8 +9,9 @@ import time
 
 ROOT = os.path.dirname(os.path.dirname(os.path.abspath(__file__)))
 SIM = [os.path.join(ROOT, "bin", "artiq_sim"), "sim"]
-PROGRAM = [os.path.join(ROOT, "crates", "artiq_sim", "out", "artiq_sim"), "sim"]
+PROGRAM = os.path.join(ROOT, "crates", "artiq_sim", "out", "artiq_sim")
 PARSE = [sys.executable, "-c", "import ast, sys; ast.parse(sys.stdin.read())"]
+COMPILE = [sys.executable, "-c", "import sys; compile(sys.stdin.read(), 'text', 'exec')"]
 ROUNDS = 20
 
 
@@ -48,8 +49,9 @@ def memory_needed(argv, path, status=0):
     return None
 
 
-def compare(texts):
-    """Prints a line for each of some (name, text, status), after the program is built."""
+def compare(texts, command="sim", beside=PARSE):
+    """Prints a line for each of some (name, text, status) under a command, after the program is built."""
+    program = [PROGRAM, command]
     with open(os.path.join(ROOT, "examples", "pair_of_pulses.py"), "rb") as text:
         subprocess.run(SIM, stdin=text, stdout=subprocess.DEVNULL, check=True)
     print(f"{'text':28} {'artiq_sim':>10} {'python3':>10} {'python3/artiq_sim':>18} {'memory':>8}")
@@ -58,6 +60,6 @@ def compare(texts):
             path = os.path.join(folder, "text")
             with open(path, "w", encoding="ascii") as file:
                 file.write(text)
-            ours, theirs = best_time(PROGRAM, path, status), best_time(PARSE, path)
-            memory = memory_needed(PROGRAM, path, status)
+            ours, theirs = best_time(program, path, status), best_time(beside, path)
+            memory = memory_needed(program, path, status)
             print(f"{name:28} {ours:7.2f} ms {theirs:7.1f} ms {theirs / ours:18.1f} {memory:5} MB")

@@ -20,12 +20,20 @@ use Rattle.kern_syntax.specs.Nodes.{program_nodes}
 use Rattle.kern_grammar.specs.Accepted.{HasTree, Begins, IsFirstFault}
 use Rattle.kern_parser.specs.Answers.{EndsRightly}
 use Rattle.artiq_sim.specs.declared.answer.Answer.{Answer}
-use Rattle.artiq_sim.specs.declared.answer.Answer.TheVariants.{Report, Refused}
+use Rattle.artiq_sim.specs.declared.answer.Answer.TheVariants.{Due, Refused}
+use Rattle.artiq_sim.specs.declared.command.Command.{Command}
+use Rattle.artiq_sim.specs.declared.command.Command.TheVariants.{Sim, Check}
 use Rattle.artiq_sim.specs.declared.step.Step.{Step}
 use Rattle.artiq_sim.specs.Straight.{wrong_line}
-use Rattle.artiq_sim.specs.Texts.{IsTextOf, IsStraightText, IsRefused, no_tokens, no_tree, too_large, not_straight, max_nodes, lex_line, syntax_line}
-use Rattle.artiq_sim.specs.Forms.{IsStraight, IsProgramRefused, large, wrong, IsProgramReport, IsAnswerToProgram}
-use Rattle.artiq_sim.specs.Answers.{status_of, ReportsText, IsAnswerTo}
+use Rattle.kern_types.specs.declared.fault.TypeEnd.{TypeEnd}
+use Rattle.kern_types.specs.declared.fault.TypeEnd.TheVariants as T
+use Rattle.kern_types.specs.declared.fault.TypeKind.{TypeKind}
+use Rattle.kern_types.specs.Answers as TypeAnswers
+use Rattle.kern_types.specs.Programs.{IsTyped, program_verdict}
+use Rattle.kern_types.specs.Verdicts as V
+use Rattle.artiq_sim.specs.Texts.{IsTextOf, IsKernel, IsTextFor, IsRefused, no_tokens, no_tree, not_typed, too_large, not_straight, lex_line, syntax_line}
+use Rattle.artiq_sim.specs.Forms.{IsStraight, IsProgramRefused, ill, large, wrong, IsProgramReport, IsProgramDue, IsAnswerToProgram}
+use Rattle.artiq_sim.specs.Answers.{status_of, ReportsText, IsDue, IsAnswerTo}
 use Rattle.kern_lexer.proofs.Uniqueness.{one-list, not-both}
 use Rattle.artiq_sim.proofs.Plays.{count_of_steps}
 use Rattle.artiq_sim.proofs.StraightTrees.{nodes_of_lines}
@@ -39,6 +47,24 @@ few_steps program steps straight small =
     let count = count_of_steps f.body steps straight.has_steps.are in
     omega (arith, nodes, lines, count, small)
 
+-- ---- what a command takes
+
+-- a text that a command takes has a program
+text_of : (command : Command) (text : Bytes) (program : ProgramTree) → IsTextFor command text program → IsTextOf text program
+text_of Sim text program taken = taken.is_text
+text_of Check text program taken = taken.is_text
+
+-- and that is an accepted kernel
+kernel_of : (command : Command) (text : Bytes) (program : ProgramTree) → IsTextFor command text program → IsKernel program
+kernel_of Sim text program taken = taken.kernel
+kernel_of Check text program taken = taken.kernel
+
+-- a program that is typed has no fault
+typed_or_fault : (program : ProgramTree) (line : ℕ) (kind : TypeKind) → IsTyped program → program_verdict program ≡ V.fault line kind → ⊥
+typed_or_fault program line kind typed fault =
+    let clash : false ≡ true = sym (ap V.is_well fault) ∙ typed in
+    absurd (cc)
+
 -- ---- texts without tokens
 
 same_tokens : (text : Bytes) (a b : List Token) → HasTokens text a → HasTokens text b → a ≡ b
@@ -47,10 +73,10 @@ same_tokens = one-list
 tokens_or_fault : (text : Bytes) (tokens : List Token) (fault : LexFault) → HasTokens text tokens → HasFault text fault → ⊥
 tokens_or_fault = not-both
 
-pub answer_no_tokens : (text told : Bytes) (fault : LexFault) → HasFault text fault → told ≡ lex_line fault.at fault.kind → IsRefused text told × ((program : ProgramTree) → IsStraightText text program → ⊥)
-answer_no_tokens text told fault faults line = (
+pub answer_no_tokens : (command : Command) (text told : Bytes) (fault : LexFault) → HasFault text fault → told ≡ lex_line fault.at fault.kind → IsRefused command text told × ((program : ProgramTree) → IsTextFor command text program → ⊥)
+answer_no_tokens command text told fault faults line = (
   no_tokens fault faults line,
-  λ program straight. tokens_or_fault text straight.is_text.tokens fault straight.is_text.lexed faults,
+  λ program taken. let is_text = text_of command text program taken in tokens_or_fault text is_text.tokens fault is_text.lexed faults,
 )
 
 -- ---- tokens without a tree
@@ -68,11 +94,11 @@ tree_or_fault text tokens place program lexed fault is_text =
 pub token_at : (tokens : List Token) (place : ℕ) (token : Token) → place < length tokens → token ≡ get_or tokens place token → slice_get tokens place ≡ Some token
 token_at tokens place token below is = slice_get_read tokens (length tokens) place token refl below is
 
-pub answer_no_tree : (text told : Bytes) (tokens : List Token) (place : ℕ) (token : Token) → HasTokens text tokens → IsFirstFault (lexemes_of text tokens) place → slice_get tokens place ≡ Some token → told ≡ syntax_line place token.at
-    → IsRefused text told × ((program : ProgramTree) → IsStraightText text program → ⊥)
-answer_no_tree text told tokens place token lexed fault at line = (
+pub answer_no_tree : (command : Command) (text told : Bytes) (tokens : List Token) (place : ℕ) (token : Token) → HasTokens text tokens → IsFirstFault (lexemes_of text tokens) place → slice_get tokens place ≡ Some token → told ≡ syntax_line place token.at
+    → IsRefused command text told × ((program : ProgramTree) → IsTextFor command text program → ⊥)
+answer_no_tree command text told tokens place token lexed fault at line = (
   no_tree tokens lexed place token fault at line,
-  λ program straight. tree_or_fault text tokens place program lexed fault straight.is_text,
+  λ program taken. tree_or_fault text tokens place program lexed fault (text_of command text program taken),
 )
 
 -- the first wrong token is one of the tokens
@@ -99,32 +125,51 @@ only_program text tokens tree program lexed only is_text =
     let same = same_tokens text tokens is_text.tokens lexed is_text.lexed in
     only program (subst (λ ts. HasTree (lexemes_of text ts) program) (sym same) is_text.parsed)
 
--- a straight text is refused by nothing
-not_refused : (text : Bytes) (tokens : List Token) (tree : ProgramTree) → HasTokens text tokens → ((other : ProgramTree) → HasTree (lexemes_of text tokens) other → tree ≡ other) → IsTextOf text tree → program_nodes tree ≤ max_nodes → wrong_line tree ≡ None
-    → (told : Bytes) → IsRefused text told → ⊥
-not_refused text tokens tree lexed only is_text small straight told (no_tokens fault faults line) = tokens_or_fault text tokens fault lexed faults
-not_refused text tokens tree lexed only is_text small straight told (no_tree others other_lexed place token fault at line) = tree_or_fault text others place tree other_lexed fault is_text
-not_refused text tokens tree lexed only is_text small straight told (too_large program other big line) =
-    let count : program_nodes tree ≡ program_nodes program = ap program_nodes (only_program text tokens tree program lexed only other) in
-    omega (arith, count, small, big)
-not_refused text tokens tree lexed only is_text small straight told (not_straight program other fits number first line) =
-    let clash : None ≡ Some number = sym straight ∙ ap wrong_line (only_program text tokens tree program lexed only other) ∙ first in
-    absurd (cc)
+-- a program that `sim` runs or `check` prints
+abbrev IsProgramFor : Command → ProgramTree → Type 0
+IsProgramFor Sim program = IsKernel program × (wrong_line program ≡ None)
+IsProgramFor Check program = IsKernel program
 
--- a program that is refused isn't straight
-not_straight_text : (text told : Bytes) (tokens : List Token) (tree : ProgramTree) → HasTokens text tokens → ((other : ProgramTree) → HasTree (lexemes_of text tokens) other → tree ≡ other) → IsProgramRefused tree told
-    → (program : ProgramTree) → IsStraightText text program → ⊥
-not_straight_text text told tokens tree lexed only (large big line) program straight =
-    let count : program_nodes tree ≡ program_nodes program = ap program_nodes (only_program text tokens tree program lexed only straight.is_text) in
-    let small = straight.small in
-    omega (arith, count, small, big)
-not_straight_text text told tokens tree lexed only (wrong fits number first line) program straight =
-    let clash : Some number ≡ None = sym first ∙ ap wrong_line (only_program text tokens tree program lexed only straight.is_text) ∙ straight.straight in
-    absurd (cc)
+kernel_for : (command : Command) (program : ProgramTree) → IsProgramFor command program → IsKernel program
+kernel_for Sim program taken = taken.0
+kernel_for Check program taken = taken
 
-refused_text : (text told : Bytes) (tree : ProgramTree) → IsTextOf text tree → IsProgramRefused tree told → IsRefused text told
-refused_text text told tree is_text (large big line) = too_large tree is_text big line
-refused_text text told tree is_text (wrong fits number first line) = not_straight tree is_text fits number first line
+-- a kernel isn't refused for its form where the command takes it
+straight_or_wrong : (command : Command) (program : ProgramTree) (line : ℕ) → IsProgramFor command program → command ≡ Sim → wrong_line program ≡ Some line → ⊥
+straight_or_wrong Sim program line taken is first =
+    let clash : None ≡ Some line = sym taken.1 ∙ first in
+    absurd (cc)
+straight_or_wrong Check program line taken is first = absurd (cc)
+
+-- a program that a command takes isn't refused
+not_program_refused : (command : Command) (program : ProgramTree) (told : Bytes) → IsProgramFor command program → IsProgramRefused command program told → ⊥
+not_program_refused command program told taken (ill line kind fault is) = typed_or_fault program line kind (kernel_for command program taken).typed fault
+not_program_refused command program told taken (large typed big is) =
+    let small = (kernel_for command program taken).small in
+    omega (arith, small, big)
+not_program_refused command program told taken (wrong is_sim kernel line first is) = straight_or_wrong command program line taken is_sim first
+
+-- a text is taken with its program
+program_for : (command : Command) (text : Bytes) (program : ProgramTree) → IsTextFor command text program → IsProgramFor command program
+program_for Sim text program taken = (taken.kernel, taken.straight)
+program_for Check text program taken = taken.kernel
+
+-- what refuses a text refuses its only program
+refused_program : (command : Command) (text : Bytes) (tokens : List Token) (tree : ProgramTree) → HasTokens text tokens → ((other : ProgramTree) → HasTree (lexemes_of text tokens) other → tree ≡ other) → IsTextOf text tree
+    → (told : Bytes) → IsRefused command text told → IsProgramRefused command tree told
+refused_program command text tokens tree lexed only is_text told (no_tokens fault faults line) = absurd (tokens_or_fault text tokens fault lexed faults)
+refused_program command text tokens tree lexed only is_text told (no_tree others other_lexed place token fault at line) = absurd (tree_or_fault text others place tree other_lexed fault is_text)
+refused_program command text tokens tree lexed only is_text told (not_typed program other line kind fault is) =
+    subst (λ p. IsProgramRefused command p told) (sym (only_program text tokens tree program lexed only other)) (ill line kind fault is)
+refused_program command text tokens tree lexed only is_text told (too_large program other typed big is) =
+    subst (λ p. IsProgramRefused command p told) (sym (only_program text tokens tree program lexed only other)) (large typed big is)
+refused_program command text tokens tree lexed only is_text told (not_straight is_sim program other kernel line first is) =
+    subst (λ p. IsProgramRefused command p told) (sym (only_program text tokens tree program lexed only other)) (wrong is_sim kernel line first is)
+
+refused_text : (command : Command) (text told : Bytes) (tree : ProgramTree) → IsTextOf text tree → IsProgramRefused command tree told → IsRefused command text told
+refused_text command text told tree is_text (ill line kind fault is) = not_typed tree is_text line kind fault is
+refused_text command text told tree is_text (large typed big is) = too_large tree is_text typed big is
+refused_text command text told tree is_text (wrong is_sim kernel line first is) = not_straight is_sim tree is_text kernel line first is
 
 status_by : (raised : Option Exc) (b : Bool) → b ≡ is_some raised → (if b then 6 else 0) ≡ status_of raised
 status_by None b e = rw e refl
@@ -133,22 +178,40 @@ status_by (Some x) b e = rw e refl
 reports : (text written : Bytes) (tree : ProgramTree) (b : Bool) → IsTextOf text tree → IsProgramReport tree written b → ReportsText text written (if b then 6 else 0)
 reports text written tree b is_text r = record {
   program = tree;
-  straight = record { is_text = is_text; small = r.small; straight = r.straight };
+  straight = record { is_text = is_text; kernel = r.kernel; straight = r.straight };
   run = r.run;
   is_run = r.is_run;
   report = r.report;
   status = status_by r.run.raised b r.raised;
 }
 
+-- what is due to a program is due to its text
+due_of_program : (command : Command) (text written : Bytes) (tree : ProgramTree) (b : Bool) → IsTextOf text tree → IsProgramDue command tree written b → IsDue command text written (if b then 6 else 0)
+due_of_program Sim text written tree b is_text r = reports text written tree b is_text r
+due_of_program Check text written tree b is_text r = (
+  record { program = tree; is_kernel = record { is_text = is_text; kernel = r.0 }; printed = r.1 },
+  rw r.2 refl,
+)
+
+due_for : (command : Command) (tree : ProgramTree) (written : Bytes) (b : Bool) → IsProgramDue command tree written b → IsProgramFor command tree
+due_for Sim tree written b r = (r.kernel, r.straight)
+due_for Check tree written b r = r.0
+
 -- the answer to a text is that to its tree
-pub answer_of_tree : (text : Bytes) (tokens : List Token) (tree : ProgramTree) (answer : Answer) → HasTokens text tokens → HasTree (lexemes_of text tokens) tree → ((other : ProgramTree) → HasTree (lexemes_of text tokens) other → tree ≡ other)
-    → IsAnswerToProgram tree answer → IsAnswerTo text answer
-answer_of_tree text tokens tree (Report bytes b) lexed parsed only r =
-    let is_text : IsTextOf text tree = record { tokens = tokens; lexed = lexed; parsed = parsed } in
-    (reports text bytes.items tree b is_text r, not_refused text tokens tree lexed only is_text r.small r.straight)
-answer_of_tree text tokens tree (Refused told) lexed parsed only r =
-    let is_text : IsTextOf text tree = record { tokens = tokens; lexed = lexed; parsed = parsed } in
-    (refused_text text told.items tree is_text r, not_straight_text text told.items tokens tree lexed only r)
+pub answer_of_tree : (command : Command) (text : Bytes) (tokens : List Token) (tree : ProgramTree) (answer : Answer) → HasTokens text tokens → HasTree (lexemes_of text tokens) tree → ((other : ProgramTree) → HasTree (lexemes_of text tokens) other → tree ≡ other)
+    → IsAnswerToProgram command tree answer → IsAnswerTo command text answer
+answer_of_tree command text tokens tree (Due bytes b) lexed parsed only r =
+    let is_text : IsTextOf text tree = record { tokens = tokens; lexed = lexed; parsed = parsed } in (
+      due_of_program command text bytes.items tree b is_text r,
+      λ told refused. not_program_refused command tree told (due_for command tree bytes.items b r) (refused_program command text tokens tree lexed only is_text told refused),
+    )
+answer_of_tree command text tokens tree (Refused told) lexed parsed only r =
+    let is_text : IsTextOf text tree = record { tokens = tokens; lexed = lexed; parsed = parsed } in (
+      refused_text command text told.items tree is_text r,
+      λ program taken.
+          let same = only_program text tokens tree program lexed only (text_of command text program taken) in
+          not_program_refused command program told.items (program_for command text program taken) (subst (λ p. IsProgramRefused command p told.items) same r),
+    )
 
 -- ---- the answers of the calls
 
@@ -161,7 +224,11 @@ pub first_of_end : (tokens : List Lexeme) (end : SyntaxEnd) (place : ℕ) → en
 first_of_end tokens end place is h = subst (λ (x : SyntaxEnd). EndsRightly tokens x) is h
 
 -- the answer to the tree, where there was memory
-pub answers_of_tree : (text : Bytes) (tokens : List Token) (tree : ProgramTree) {E : Type 0} (result : Result Answer E) → HasTokens text tokens → HasTree (lexemes_of text tokens) tree → ((other : ProgramTree) → HasTree (lexemes_of text tokens) other → tree ≡ other)
-    → IfOk result (λ answer. IsAnswerToProgram tree answer) → IfOk result (λ answer. IsAnswerTo text answer)
-answers_of_tree text tokens tree (Ok answer) lexed parsed only h = answer_of_tree text tokens tree answer lexed parsed only h
-answers_of_tree text tokens tree (Err e) lexed parsed only h = tt
+pub answers_of_tree : (command : Command) (text : Bytes) (tokens : List Token) (tree : ProgramTree) {E : Type 0} (result : Result Answer E) → HasTokens text tokens → HasTree (lexemes_of text tokens) tree → ((other : ProgramTree) → HasTree (lexemes_of text tokens) other → tree ≡ other)
+    → IfOk result (λ answer. IsAnswerToProgram command tree answer) → IfOk result (λ answer. IsAnswerTo command text answer)
+answers_of_tree command text tokens tree (Ok answer) lexed parsed only h = answer_of_tree command text tokens tree answer lexed parsed only h
+answers_of_tree command text tokens tree (Err e) lexed parsed only h = tt
+
+-- a type end that is a fault
+pub fault_of_type_end : (program : ProgramTree) (end : TypeEnd) (line : ℕ) (kind : TypeKind) → end ≡ T.Fault line kind → TypeAnswers.IsEndOf end (program_verdict program) → program_verdict program ≡ V.fault line kind
+fault_of_type_end program end line kind is h = subst (λ e. TypeAnswers.IsEndOf e (program_verdict program)) is h

@@ -1,16 +1,19 @@
 -- What a told source gave is determined by what it held before and after.
 use Rattle.std.proofs.Common.{inl, inr, ◌⊎◌, ◌≡◌, ℕ, ◌+◌, List, [], ◌++◌, refl, sym, ◌∙◌, ap, subst, length, length-append, append-nil, arith}
-use Rattle.std.specs.Prelude.{if◌then◌else◌, suc, Some, None, ◌≤◌, Vec, Bool}
+use Rattle.std.specs.Prelude.{if◌then◌else◌, suc, Some, None, IsSome, ◌≤◌, Vec, Bool}
 use Rattle.std.specs.declared.alloc.Global.{Global}
 use Rattle.lab_io.specs.declared.source.ReadEnd.{ReadEnd}
 use Rattle.lab_io.specs.declared.source.ReadEnd.TheVariants as End
 use Rattle.lab_io.specs.Reading.{IsCountAt}
 use Rattle.artiq_sim.specs.declared.answer.Answer.{Answer}
-use Rattle.artiq_sim.specs.declared.answer.Answer.TheVariants.{Report, Refused}
+use Rattle.artiq_sim.specs.declared.answer.Answer.TheVariants.{Due, Refused}
+use Rattle.artiq_sim.specs.declared.command.Command.{Command}
+use Rattle.artiq_sim.specs.declared.command.Command.TheVariants.{Sim, Check}
+use Rattle.rtio_types.specs.declared.outcome.Exc.{Exc}
 use Rattle.std.specs.declared.option.Option.{Option}
 use Rattle.std.specs.Io.KnownBytes.{Consumes, IsAtEnd}
-use Rattle.artiq_sim.specs.Answers.{max_bytes, TakesTooMany, IsAnswerTo, ReportsText}
-use Rattle.artiq_sim.specs.Texts.{IsStraightText, IsRefused}
+use Rattle.artiq_sim.specs.Answers.{max_bytes, status_of, TakesTooMany, IsAnswerTo, IsDue, IsEnd}
+use Rattle.artiq_sim.specs.Texts.{IsTextFor, IsRefused}
 use Rattle.kern_syntax.specs.Tree.{ProgramTree}
 
 -- two pieces that lead from and to the same bytes are of one length
@@ -68,13 +71,23 @@ held_too_many old new left end e told some few =
     omega (arith, count, within, few)
 
 -- the answer that refuses a text
-pub refused_answer : (t items : List ℕ) (a : Answer) (line : Vec ℕ Global) → t ≡ items → a ≡ Refused line → IsAnswerTo t a → IsRefused items line.items × ((program : ProgramTree) → IsStraightText items program → ⊥)
-refused_answer t items a line e f h = subst (λ x. IsAnswerTo items x) f (subst (λ x. IsAnswerTo x a) e h)
+pub refused_answer : (command : Command) (t items : List ℕ) (a : Answer) (line : Vec ℕ Global) → t ≡ items → a ≡ Refused line → IsAnswerTo command t a → IsRefused command items line.items × ((program : ProgramTree) → IsTextFor command items program → ⊥)
+refused_answer command t items a line e f h = subst (λ x. IsAnswerTo command items x) f (subst (λ x. IsAnswerTo command x a) e h)
 
--- the answer that reports a run
-pub report_answer : (t items : List ℕ) (a : Answer) (bytes : Vec ℕ Global) (raised : Bool) → t ≡ items → a ≡ Report bytes raised → IsAnswerTo t a
-    → ReportsText items bytes.items (if raised then 6 else 0) × ((told : List ℕ) → IsRefused items told → ⊥)
-report_answer t items a bytes raised e f h = subst (λ x. IsAnswerTo items x) f (subst (λ x. IsAnswerTo x a) e h)
+-- the answer that has what is due
+pub due_answer : (command : Command) (t items : List ℕ) (a : Answer) (bytes : Vec ℕ Global) (raised : Bool) → t ≡ items → a ≡ Due bytes raised → IsAnswerTo command t a
+    → IsDue command items bytes.items (if raised then 6 else 0) × ((told : List ℕ) → IsRefused command items told → ⊥)
+due_answer command t items a bytes raised e f h = subst (λ x. IsAnswerTo command items x) f (subst (λ x. IsAnswerTo command x a) e h)
+
+-- the status of a run is one of two
+ends_run : (raised : Option Exc) (status : ℕ) → status ≡ status_of raised → (status ≡ 0) ⊎ (status ≡ 6)
+ends_run None status is = inl is
+ends_run (Some x) status is = inr is
+
+-- what is due comes with a status of the command
+pub due_ends : (command : Command) (text written : List ℕ) (status : ℕ) → IsDue command text written status → IsEnd command status
+due_ends Sim text written status due = ends_run due.run.raised status due.status
+due_ends Check text written status due = due.1
 
 -- an answer that isn't 4 is the status
 pub not_four : (result status : ℕ) → (result ≡ status) ⊎ (result ≡ 4) → (result ≡ 0) ⊎ (result ≡ 6) → result ≡ status
@@ -82,17 +95,34 @@ not_four result status (inl e) good = e
 not_four result status (inr four) (inl zero_status) = absurd (omega (arith, four, zero_status))
 not_four result status (inr four) (inr six) = absurd (omega (arith, four, six))
 
--- a text that is refused isn't straight
-pub not_straight_too : (old new : Option (List ℕ)) (left xs : List ℕ) (program : ProgramTree) → old ≡ Some left → Consumes old new xs → IsAtEnd new
-    → ((p : ProgramTree) → IsStraightText xs p → ⊥) → IsStraightText left program → ⊥
-not_straight_too old new left xs program told taken end none straight =
-    none program (subst (λ t. IsStraightText t program) (sym (all_left old new left xs told taken end)) straight)
+-- the command that was asked is one
+pub same_command : (asked : Option Command) (command other : Command) → asked ≡ Some command → asked ≡ Some other → command ≡ other
+same_command asked command other first second =
+    let same : Some command ≡ Some other = sym first ∙ second in
+    cc
 
--- a text that is reported isn't refused
-pub not_refused_too : (old new : Option (List ℕ)) (left xs line : List ℕ) → old ≡ Some left → Consumes old new xs → IsAtEnd new
-    → ((l : List ℕ) → IsRefused xs l → ⊥) → IsRefused left line → ⊥
-not_refused_too old new left xs line told taken end none refused =
-    none line (subst (λ t. IsRefused t line) (sym (all_left old new left xs told taken end)) refused)
+-- words that name a command are accepted
+pub is_asked : (asked : Option Command) (command : Command) → asked ≡ Some command → IsSome asked
+is_asked asked command is = subst (λ x. IsSome x) (sym is) refl
+
+-- an answer that isn't 4 is one that the command ends with
+pub ends_told : (command : Command) (result status : ℕ) → (result ≡ status) ⊎ (result ≡ 4) → IsEnd command status → (result ≡ 4 → ⊥) → IsEnd command result
+ends_told command result status (inl same) ends other = subst (λ n. IsEnd command n) (sym same) ends
+ends_told command result status (inr four) ends other = absurd (other four)
+
+-- a text that is refused isn't one that the command takes
+pub not_taken_too : (old new : Option (List ℕ)) (left xs : List ℕ) (asked : Option Command) (command other : Command) (program : ProgramTree) → asked ≡ Some command → asked ≡ Some other → old ≡ Some left → Consumes old new xs → IsAtEnd new
+    → ((p : ProgramTree) → IsTextFor command xs p → ⊥) → IsTextFor other left program → ⊥
+not_taken_too old new left xs asked command other program is_asked other_asked told taken end none taken_text =
+    let same = sym (same_command asked command other is_asked other_asked) in
+    none program (subst (λ c. IsTextFor c xs program) same (subst (λ t. IsTextFor other t program) (sym (all_left old new left xs told taken end)) taken_text))
+
+-- a text whose due is given isn't refused
+pub not_refused_too : (old new : Option (List ℕ)) (left xs line : List ℕ) (asked : Option Command) (command other : Command) → asked ≡ Some command → asked ≡ Some other → old ≡ Some left → Consumes old new xs → IsAtEnd new
+    → ((l : List ℕ) → IsRefused command xs l → ⊥) → IsRefused other left line → ⊥
+not_refused_too old new left xs line asked command other is_asked other_asked told taken end none refused =
+    let same = sym (same_command asked command other is_asked other_asked) in
+    none line (subst (λ c. IsRefused c xs line) same (subst (λ t. IsRefused other t line) (sym (all_left old new left xs told taken end)) refused))
 
 -- a text that was read whole isn't longer than the maximum
 pub not_longer : (old new : Option (List ℕ)) (left xs : List ℕ) → old ≡ Some left → Consumes old new xs → IsAtEnd new → length xs ≤ max_bytes → suc max_bytes ≤ length left → ⊥

@@ -1,14 +1,17 @@
 -- What the program answers and writes, and why.
-use Rattle.std.specs.Prelude.{if◌then◌else◌, ◌≡◌, ℕ, ◌+◌, ◌≤◌, ◌<◌, List, length, take, Bool, IsTrue, IsFalse, Option, Some, None, codes, nat_le, ◌||◌, ◌==◌}
+use Rattle.std.specs.Prelude.{if◌then◌else◌, ◌≡◌, ℕ, ◌+◌, ◌≤◌, ◌<◌, List, length, take, Bool, Option, Some, None, IsSome, codes, nat_le, ◌||◌, ◌==◌, ◌⊎◌}
 use Rattle.std.specs.Io.KnownBytes.{Consumes, IsAtEnd, Appends}
 use Rattle.lab_io.specs.Causes.{Rose}
 use Rattle.rtio_types.specs.declared.outcome.Exc.{Exc}
 use Rattle.kern_syntax.specs.Tree.{ProgramTree}
-use Rattle.artiq_sim.specs.Texts.{IsStraightText, IsRefused}
+use Rattle.kern_syntax.specs.Print.{program_text}
+use Rattle.artiq_sim.specs.declared.command.Command.{Command}
+use Rattle.artiq_sim.specs.declared.command.Command.TheVariants.{Sim, Check}
+use Rattle.artiq_sim.specs.Texts.{IsKernelText, IsStraightText, IsTextFor, IsRefused}
 use Rattle.artiq_sim.specs.Runs.{Run, IsRun}
 use Rattle.artiq_sim.specs.Report.{report_text}
 use Rattle.artiq_sim.specs.declared.answer.Answer.{Answer}
-use Rattle.artiq_sim.specs.declared.answer.Answer.TheVariants.{Report, Refused}
+use Rattle.artiq_sim.specs.declared.answer.Answer.TheVariants.{Due, Refused}
 
 -- the most bytes of a text
 abbrev pub max_bytes : ℕ
@@ -34,19 +37,39 @@ pub record ReportsText (text written : List ℕ) (answered : ℕ) : Type 0 where
   pub report : written ≡ report_text run
   pub status : answered ≡ status_of run.raised
 
--- the source was read to its end, and what is held has grown by the report of a run of its text
-pub record ReportsRun (old new held_old held_new : Option (List ℕ)) (status : ℕ) : Type 0 where
+-- the bytes are the canonical text of the program that the text has
+pub record PrintsText (text written : List ℕ) : Type 0 where
+  pub program : ProgramTree
+  pub is_kernel : IsKernelText text program
+  pub printed : written ≡ program_text program
+
+-- the bytes and the status that a command owes a text: the report of a run and its status, or the canonical text and 0
+abbrev pub IsDue : Command → (text written : List ℕ) → (status : ℕ) → Type 0
+IsDue Sim text written status = ReportsText text written status
+IsDue Check text written status = PrintsText text written × (status ≡ 0)
+
+-- the statuses of a command that nothing stops
+abbrev pub IsEnd : Command → (status : ℕ) → Type 0
+IsEnd Sim status = (status ≡ 0) ⊎ (status ≡ 6)
+IsEnd Check status = status ≡ 0
+
+-- the source was read to its end, and what is held has grown by what the command that was asked owes its text
+pub record GivesDue (asked : Option Command) (old new held_old held_new : Option (List ℕ)) (status : ℕ) : Type 0 where
+  pub command : Command
+  pub is_asked : asked ≡ Some command
   pub text : List ℕ
   pub written : List ℕ
   pub read : ReadsWhole old new text
-  pub reports : ReportsText text written status
+  pub due : IsDue command text written status
   pub grown : Appends held_old held_new written
 
--- the source was read to its end, and what it held is refused with this line
-pub record HoldsRefused (told : List ℕ) (old new : Option (List ℕ)) : Type 0 where
+-- the source was read to its end, and the command that was asked refuses what it held with this line
+pub record HoldsRefused (told : List ℕ) (asked : Option Command) (old new : Option (List ℕ)) : Type 0 where
+  pub command : Command
+  pub is_asked : asked ≡ Some command
   pub text : List ℕ
   pub read : ReadsWhole old new text
-  pub refused : IsRefused text told
+  pub refused : IsRefused command text told
 
 -- more bytes were taken than a text may have
 pub record TakesTooMany (old new : Option (List ℕ)) : Type 0 where
@@ -66,9 +89,9 @@ pub record OnlyTells (out_old out_new err_old err_new : Option (List ℕ)) (line
   pub err : Appends err_old err_new line
 
 -- the source held a text that is refused, and only err has grown, by the line that says why
-pub record TellsRefused (old new out_old out_new err_old err_new : Option (List ℕ)) : Type 0 where
+pub record TellsRefused (asked : Option Command) (old new out_old out_new err_old err_new : Option (List ℕ)) : Type 0 where
   pub told : List ℕ
-  pub holds : HoldsRefused told old new
+  pub holds : HoldsRefused told asked old new
   pub tells : OnlyTells out_old out_new err_old err_new told
 
 -- why a run is refused or not made
@@ -84,34 +107,37 @@ refusal_line read_fault = codes "read fault\n"
 refusal_line memory = codes "memory\n"
 refusal_line too_long = codes "too long\n"
 
--- why a refusal comes: by the words, the source's bytes and the source's faults
-abbrev pub IsCause : Refusal → (accepted : Bool) (old new : Option (List ℕ)) (before now : ℕ) → Type 0
-IsCause (of_text told) accepted old new before now = IsTrue accepted × HoldsRefused told old new
-IsCause usage accepted old new before now = IsFalse accepted
-IsCause read_fault accepted old new before now = IsTrue accepted × Rose before now
-IsCause memory accepted old new before now = IsTrue accepted
-IsCause too_long accepted old new before now = IsTrue accepted × TakesTooMany old new
+-- why a refusal comes: by the command that was asked, if it was one, the source's bytes and the source's faults
+abbrev pub IsCause : Refusal → (asked : Option Command) (old new : Option (List ℕ)) (before now : ℕ) → Type 0
+IsCause (of_text told) asked old new before now = HoldsRefused told asked old new
+IsCause usage asked old new before now = asked ≡ None
+IsCause read_fault asked old new before now = IsSome asked × Rose before now
+IsCause memory asked old new before now = IsSome asked
+IsCause too_long asked old new before now = IsSome asked × TakesTooMany old new
 
--- a write to out failed, which has got a part of the report of a run of the source's text
-pub record OutFails (old new held_old held_new : Option (List ℕ)) : Type 0 where
+-- a write to out failed, which has got a part of what the command that was asked owes the source's text
+pub record OutFails (asked : Option Command) (old new held_old held_new : Option (List ℕ)) : Type 0 where
+  pub command : Command
+  pub is_asked : asked ≡ Some command
   pub text : List ℕ
   pub written : List ℕ
   pub status : ℕ
   pub read : ReadsWhole old new text
-  pub reports : ReportsText text written status
+  pub due : IsDue command text written status
   pub part : GrowsByPart held_old held_new written
 
 -- a write to err failed, which has got a part of the line of a refusal that had its cause
-pub record ErrFails (accepted : Bool) (old new : Option (List ℕ)) (before now : ℕ) (held_old held_new : Option (List ℕ)) : Type 0 where
+pub record ErrFails (asked : Option Command) (old new : Option (List ℕ)) (before now : ℕ) (held_old held_new : Option (List ℕ)) : Type 0 where
   pub refusal : Refusal
-  pub cause : IsCause refusal accepted old new before now
+  pub cause : IsCause refusal asked old new before now
   pub part : GrowsByPart held_old held_new (refusal_line refusal)
 
--- an answer is the report of a run of the text, which nothing refuses, or the line that refuses it, and it isn't straight
-abbrev pub IsAnswerTo : List ℕ → Answer → Type 0
-IsAnswerTo text (Report bytes has_raised) =
-    ReportsText text bytes.items (if has_raised then 6 else 0) × ((told : List ℕ) → IsRefused text told → ⊥)
-IsAnswerTo text (Refused told) = IsRefused text told.items × ((program : ProgramTree) → IsStraightText text program → ⊥)
+-- an answer is what a command owes a text that it doesn't refuse, or the line that refuses one that it doesn't take
+abbrev pub IsAnswerTo : Command → List ℕ → Answer → Type 0
+IsAnswerTo command text (Due bytes has_raised) =
+    IsDue command text bytes.items (if has_raised then 6 else 0) × ((told : List ℕ) → IsRefused command text told → ⊥)
+IsAnswerTo command text (Refused told) =
+    IsRefused command text told.items × ((program : ProgramTree) → IsTextFor command text program → ⊥)
 
 -- the statuses that there are
 abbrev pub is_status : ℕ → Bool

@@ -1,5 +1,5 @@
 -- What a program is to `sim`, and the rule on the next output.
-use Rattle.std.specs.Prelude.{◌≡◌, ◌≤◌, ◌<◌, is_some, ℕ, List, [], ◌∷◌, Bool, true, ◌&&◌, pos, int_lt, int_le, IsTrue, Option, Some, None}
+use Rattle.std.specs.Prelude.{◌≡◌, ◌<◌, is_some, ℕ, List, [], ◌∷◌, Bool, true, false, ◌&&◌, pos, int_lt, int_le, IsTrue, Option, Some, None}
 use Rattle.rtio_types.specs.Time.{coarse_of}
 use Rattle.rtio_types.specs.declared.event.Event.{Event}
 use Rattle.kern_syntax.specs.Tree.{Block, done, ProgramTree}
@@ -8,9 +8,15 @@ use Rattle.artiq_sim.specs.declared.straight.Form.TheVariants as F
 use Rattle.artiq_sim.specs.declared.step.Step.{Step}
 use Rattle.kern_syntax.specs.Nodes.{program_nodes, shown}
 use Rattle.artiq_sim.specs.declared.answer.Answer.{Answer}
-use Rattle.artiq_sim.specs.declared.answer.Answer.TheVariants.{Report, Refused}
+use Rattle.artiq_sim.specs.declared.answer.Answer.TheVariants.{Due, Refused}
 use Rattle.artiq_sim.specs.Report.{report_text}
-use Rattle.artiq_sim.specs.Texts.{max_nodes, code_line, form_line}
+use Rattle.kern_syntax.specs.Print.{program_text}
+use Rattle.kern_types.specs.declared.fault.TypeKind.{TypeKind}
+use Rattle.kern_types.specs.Programs.{IsTyped, program_verdict}
+use Rattle.kern_types.specs.Verdicts as V
+use Rattle.artiq_sim.specs.declared.command.Command.{Command}
+use Rattle.artiq_sim.specs.declared.command.Command.TheVariants.{Sim, Check}
+use Rattle.artiq_sim.specs.Texts.{IsKernel, max_nodes, type_line, code_line, form_line}
 use Rattle.artiq_sim.specs.Runs.{cycles_rise, Run, IsRun}
 use Rattle.artiq_sim.specs.Steps.{AreSteps, HasSteps, outputs_from}
 use Rattle.artiq_sim.specs.Straight.{wrong_line, wrong_line_behind}
@@ -58,21 +64,27 @@ abbrev pub IsFormOfBody : Block → Form → Type 0
 IsFormOfBody body (F.Straight steps) = IsStraightBody body steps.items
 IsFormOfBody body (F.Wrong line) = wrong_line_behind done body ≡ Some line
 
--- why a program is refused, and the line that says so
-pub data IsProgramRefused (program : ProgramTree) (told : List ℕ) : Type 0 where
-  large : max_nodes < program_nodes program → told ≡ code_line (shown (program_nodes program)) → IsProgramRefused program told
-  wrong : program_nodes program ≤ max_nodes → (line : ℕ) → wrong_line program ≡ Some line → told ≡ form_line line → IsProgramRefused program told
+-- why a command refuses a program, and the line that says so
+pub data IsProgramRefused (command : Command) (program : ProgramTree) (told : List ℕ) : Type 0 where
+  ill : (line : ℕ) (kind : TypeKind) → program_verdict program ≡ V.fault line kind → told ≡ type_line line kind → IsProgramRefused command program told
+  large : IsTyped program → max_nodes < program_nodes program → told ≡ code_line (shown (program_nodes program)) → IsProgramRefused command program told
+  wrong : command ≡ Sim → IsKernel program → (line : ℕ) → wrong_line program ≡ Some line → told ≡ form_line line → IsProgramRefused command program told
 
 -- the report of a straight program's run
 pub record IsProgramReport (program : ProgramTree) (written : List ℕ) (has_raised : Bool) : Type 0 where
-  pub small : program_nodes program ≤ max_nodes
+  pub kernel : IsKernel program
   pub straight : wrong_line program ≡ None
   pub run : Run
   pub is_run : IsRun program run
   pub report : written ≡ report_text run
   pub raised : has_raised ≡ is_some run.raised
 
--- the answer to a program
-abbrev pub IsAnswerToProgram : ProgramTree → Answer → Type 0
-IsAnswerToProgram program (Report bytes has_raised) = IsProgramReport program bytes.items has_raised
-IsAnswerToProgram program (Refused told) = IsProgramRefused program told.items
+-- what a command owes a program
+abbrev pub IsProgramDue : Command → ProgramTree → List ℕ → Bool → Type 0
+IsProgramDue Sim program written has_raised = IsProgramReport program written has_raised
+IsProgramDue Check program written has_raised = IsKernel program × (written ≡ program_text program) × (has_raised ≡ false)
+
+-- the answer of a command to a program
+abbrev pub IsAnswerToProgram : Command → ProgramTree → Answer → Type 0
+IsAnswerToProgram command program (Due bytes has_raised) = IsProgramDue command program bytes.items has_raised
+IsAnswerToProgram command program (Refused told) = IsProgramRefused command program told.items

@@ -1,4 +1,4 @@
--- Kernel texts and their programs; straight texts; the err lines of other texts.
+-- Kernel texts and their programs; the texts that a command takes; the err lines of other texts.
 use Rattle.std.specs.Prelude.{◌≡◌, ℕ, ◌≤◌, ◌<◌, List, ◌++◌, slice_get, Some, None, codes, decimal}
 use Rattle.kern_lexer.specs.Answers.{HasTokens, HasFault}
 use Rattle.kern_lexer.specs.Faults.{LexFault}
@@ -9,6 +9,12 @@ use Rattle.kern_lexer.specs.declared.token.Token.{Token}
 use Rattle.kern_syntax.specs.Tree.{Bytes, ProgramTree}
 use Rattle.kern_syntax.specs.Nodes.{program_nodes, shown}
 use Rattle.kern_grammar.specs.Accepted.{HasTree, IsFirstFault}
+use Rattle.kern_types.specs.declared.fault.TypeKind.{TypeKind}
+use Rattle.kern_types.specs.declared.fault.TypeKind.TheVariants as T
+use Rattle.kern_types.specs.Programs.{IsTyped, program_verdict}
+use Rattle.kern_types.specs.Verdicts as V
+use Rattle.artiq_sim.specs.declared.command.Command.{Command}
+use Rattle.artiq_sim.specs.declared.command.Command.TheVariants.{Sim, Check}
 use Rattle.artiq_sim.specs.Straight.{wrong_line}
 
 -- the bytes have tokens, and these have the program as their tree
@@ -21,11 +27,26 @@ pub record IsTextOf (text : Bytes) (program : ProgramTree) : Type 0 where
 abbrev pub max_nodes : ℕ
 max_nodes = 16384
 
--- the bytes are the text of a straight program
+-- a program is typed and has no more nodes than it may
+pub record IsKernel (program : ProgramTree) : Type 0 where
+  pub typed : IsTyped program
+  pub small : program_nodes program ≤ max_nodes
+
+-- the bytes are the text of an accepted kernel
+pub record IsKernelText (text : Bytes) (program : ProgramTree) : Type 0 where
+  pub is_text : IsTextOf text program
+  pub kernel : IsKernel program
+
+-- the bytes are the text of an accepted kernel that is straight
 pub record IsStraightText (text : Bytes) (program : ProgramTree) : Type 0 where
   pub is_text : IsTextOf text program
-  pub small : program_nodes program ≤ max_nodes
+  pub kernel : IsKernel program
   pub straight : wrong_line program ≡ None
+
+-- the texts that a command takes, with their programs
+abbrev pub IsTextFor : Command → (text : Bytes) → (program : ProgramTree) → Type 0
+IsTextFor Sim text program = IsStraightText text program
+IsTextFor Check text program = IsKernelText text program
 
 -- the name of a kind of fault
 abbrev pub kind_text : LexKind → Bytes
@@ -44,6 +65,25 @@ lex_line at kind = codes "lex " ++ decimal at ++ codes " " ++ kind_text kind ++ 
 abbrev pub syntax_line : ℕ → ℕ → Bytes
 syntax_line token at = codes "syntax " ++ decimal token ++ codes " " ++ decimal at ++ codes "\n"
 
+-- the name of a kind of fault of types
+abbrev pub type_kind_text : TypeKind → Bytes
+type_kind_text T.Name = codes "Name"
+type_kind_text T.Size = codes "Size"
+type_kind_text T.Unknown = codes "Unknown"
+type_kind_text T.Method = codes "Method"
+type_kind_text T.Arity = codes "Arity"
+type_kind_text T.Width = codes "Width"
+type_kind_text T.NotBool = codes "NotBool"
+type_kind_text T.Mismatch = codes "Type"
+type_kind_text T.BlockExit = codes "BlockExit"
+type_kind_text T.NestedRecord = codes "NestedRecord"
+type_kind_text T.LiveInRecord = codes "LiveInRecord"
+type_kind_text T.NoMain = codes "NoMain"
+
+-- the line of a program that isn't typed: the line of its first fault, and the fault's kind
+abbrev pub type_line : ℕ → TypeKind → Bytes
+type_line line kind = codes "type " ++ decimal line ++ codes " " ++ type_kind_text kind ++ codes "\n"
+
 -- the line of a program with too many nodes
 abbrev pub code_line : ℕ → Bytes
 code_line count = codes "code " ++ decimal count ++ codes "\n"
@@ -52,9 +92,10 @@ code_line count = codes "code " ++ decimal count ++ codes "\n"
 abbrev pub form_line : ℕ → Bytes
 form_line line = codes "form " ++ decimal line ++ codes "\n"
 
--- why a text is refused, and the line that says so
-pub data IsRefused (text : Bytes) (told : Bytes) : Type 0 where
-  no_tokens : (fault : LexFault) → HasFault text fault → told ≡ lex_line fault.at fault.kind → IsRefused text told
-  no_tree : (tokens : List Token) → HasTokens text tokens → (place : ℕ) (token : Token) → IsFirstFault (lexemes_of text tokens) place → slice_get tokens place ≡ Some token → told ≡ syntax_line place token.at → IsRefused text told
-  too_large : (program : ProgramTree) → IsTextOf text program → max_nodes < program_nodes program → told ≡ code_line (shown (program_nodes program)) → IsRefused text told
-  not_straight : (program : ProgramTree) → IsTextOf text program → program_nodes program ≤ max_nodes → (line : ℕ) → wrong_line program ≡ Some line → told ≡ form_line line → IsRefused text told
+-- why a command refuses a text, and the line that says so
+pub data IsRefused (command : Command) (text : Bytes) (told : Bytes) : Type 0 where
+  no_tokens : (fault : LexFault) → HasFault text fault → told ≡ lex_line fault.at fault.kind → IsRefused command text told
+  no_tree : (tokens : List Token) → HasTokens text tokens → (place : ℕ) (token : Token) → IsFirstFault (lexemes_of text tokens) place → slice_get tokens place ≡ Some token → told ≡ syntax_line place token.at → IsRefused command text told
+  not_typed : (program : ProgramTree) → IsTextOf text program → (line : ℕ) (kind : TypeKind) → program_verdict program ≡ V.fault line kind → told ≡ type_line line kind → IsRefused command text told
+  too_large : (program : ProgramTree) → IsTextOf text program → IsTyped program → max_nodes < program_nodes program → told ≡ code_line (shown (program_nodes program)) → IsRefused command text told
+  not_straight : command ≡ Sim → (program : ProgramTree) → IsTextOf text program → IsKernel program → (line : ℕ) → wrong_line program ≡ Some line → told ≡ form_line line → IsRefused command text told

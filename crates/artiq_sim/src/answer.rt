@@ -1,23 +1,28 @@
 // What the program answers to a text.
 ghost use Rattle.std.specs.Prelude.{◌≤◌, length, IfOk};
 ghost use Rattle.kern_syntax.specs.TreeOf.{tree_of};
+ghost use Rattle.kern_types.specs.Programs.{IsTyped};
+ghost use Rattle.artiq_sim.specs.Texts.{IsKernel};
 ghost use Rattle.artiq_sim.specs.Answers.{IsAnswerTo};
 ghost use Rattle.artiq_sim.specs.Forms.{IsAnswerToProgram};
 
-use crate::refusal::{code_refusal, form_refusal, lex_refusal, syntax_refusal};
+use crate::command::Command;
+use crate::refusal::{code_refusal, form_refusal, lex_refusal, syntax_refusal, type_refusal};
 use crate::report::report;
 use crate::run::run;
 use crate::straight::{Form, form_of};
 use kern_lexer::{LexEnd, lex};
 use kern_parser::{SyntaxEnd, parse};
-use kern_syntax::{Program, nodes};
+use kern_syntax::{Program, nodes, print};
+use kern_types::{TypeEnd, check};
 use std::alloc::{AllocError, Global};
 
 /// What the program says of a text.
 #[derive(Drop)]
 pub enum Answer {
-    /// The report of its run, and whether an exception ended that.
-    Report { bytes: Vec<u8>, raised: bool },
+    /// The bytes that the command owes the text: the report of its run, and whether an exception ended that, or its
+    /// canonical text.
+    Due { bytes: Vec<u8>, raised: bool },
     /// The line that says why the text is refused.
     Refused(Vec<u8>),
 }
@@ -25,10 +30,10 @@ pub enum Answer {
 // The greatest number of nodes of a program.
 const MAX_NODES: u64 = 16384;
 
-/// Reads a kernel's text, runs it if it is straight, and writes its report.
-pub fn answer_to(alloc: Global, text: &[u8]) -> Result<Answer, AllocError>
+/// Reads a kernel's text and does with it what the command says, or says why the text is refused.
+pub fn answer_to(alloc: Global, command: Command, text: &[u8]) -> Result<Answer, AllocError>
     requires { length text.now ≤ 1048576 }
-    ensures { IfOk result (λ answer. IsAnswerTo text.now answer) }
+    ensures { IfOk result (λ answer. IsAnswerTo command text.now answer) }
 {
     let tokens = match lex(alloc, text) {
         Ok(tokens) => tokens,
@@ -38,7 +43,7 @@ pub fn answer_to(alloc: Global, text: &[u8]) -> Result<Answer, AllocError>
         )?)),
     };
     match parse(alloc, &tokens, text) {
-        Ok(program) => answer_to_program(alloc, &program),
+        Ok(program) => answer_to_program(alloc, command, program),
         Err(SyntaxEnd::Memory) => Err(AllocError),
         Err(SyntaxEnd::Fault { token }) => {
             let at = tokens[token as usize].at;
@@ -47,20 +52,52 @@ pub fn answer_to(alloc: Global, text: &[u8]) -> Result<Answer, AllocError>
     }
 }
 
-// Runs a program if it is straight, and writes its report.
-fn answer_to_program(alloc: Global, program: &Program) -> Result<Answer, AllocError>
-    ensures { IfOk result (λ answer. IsAnswerToProgram (tree_of program.now) answer) }
+// Checks a program's types, and goes on with it.
+fn answer_to_program(
+    alloc: Global,
+    command: Command,
+    program: Program,
+) -> Result<Answer, AllocError>
+    ensures { IfOk result (λ answer. IsAnswerToProgram command (tree_of program) answer) }
+{
+    match check(alloc, program) {
+        Ok(checked) => answer_to_typed(alloc, command, checked.program()),
+        Err(TypeEnd::Memory) => Err(AllocError),
+        Err(TypeEnd::Fault { line, kind }) => {
+            Ok(Answer::Refused(type_refusal(alloc, line, kind)?))
+        }
+    }
+}
+
+// Counts a typed program's nodes, and does what the command says.
+fn answer_to_typed(alloc: Global, command: Command, program: &Program) -> Result<Answer, AllocError>
+    requires { IsTyped (tree_of program.now) }
+    ensures { IfOk result (λ answer. IsAnswerToProgram command (tree_of program.now) answer) }
 {
     let count = nodes(program);
     if count > MAX_NODES {
         return Ok(Answer::Refused(code_refusal(alloc, count)?));
     }
+    match command {
+        Command::Sim => run_kernel(alloc, program),
+        Command::Check => Ok(Answer::Due {
+            bytes: print(alloc, program)?,
+            raised: false,
+        }),
+    }
+}
+
+// Runs a kernel if it is straight, and writes its report.
+fn run_kernel(alloc: Global, program: &Program) -> Result<Answer, AllocError>
+    requires { IsKernel (tree_of program.now) }
+    ensures { IfOk result (λ answer. IsAnswerToProgram Command.Sim (tree_of program.now) answer) }
+{
     match form_of(alloc, program)? {
         Form::Wrong(line) => Ok(Answer::Refused(form_refusal(alloc, line)?)),
         Form::Straight(steps) => {
             let played = run(alloc, &steps)?;
             let bytes = report(alloc, &played)?;
-            Ok(Answer::Report {
+            Ok(Answer::Due {
                 bytes,
                 raised: played.raised.is_some(),
             })

@@ -1,7 +1,9 @@
-//! `artiq_sim`: runs the text of a kernel on the simulated core and reports its outputs.
+//! `artiq_sim`: runs the text of a kernel on the simulated core and reports its outputs, or checks it and writes its
+//! canonical text.
 #![tactic(auto)]
 
 mod answer;
+mod command;
 mod played;
 mod refusal;
 mod report;

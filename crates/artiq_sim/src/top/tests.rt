@@ -2,6 +2,7 @@
 use super::*;
 use lab_io::{Page, Tape};
 use std::alloc::AllocError;
+use std::process::Abort;
 use std::test::Fail;
 
 const USAGE: &str = "usage: artiq_sim sim or check or compile or exec or gen\n";
@@ -33,7 +34,7 @@ fn run_program(
         owned.push(String::from_str(alloc, word)?)?;
     }
     let mut source = Tape::new(text, 4096, source_fails.to_vec(alloc)?);
-    let mut out = Page::new(alloc, 100000, 16, out_fails.to_vec(alloc)?)?;
+    let mut out = Page::new(alloc, 200000, 16, out_fails.to_vec(alloc)?)?;
     let mut err = Page::new(alloc, 1000, 16, err_fails.to_vec(alloc)?)?;
     let status = sim_top(alloc, &owned, &mut source, &mut out, &mut err);
     Ok(Left {
@@ -43,11 +44,11 @@ fn run_program(
     })
 }
 
-// What `sim` leaves of a text where no call fails.
-fn of_text(alloc: Global, text: &str) -> Result<Left, AllocError> {
+// What a command leaves of a text where no call fails.
+fn of_text(alloc: Global, command: &str, text: &str) -> Result<Left, AllocError> {
     run_program(
         alloc,
-        &["sim"],
+        &[command],
         text.as_bytes().to_vec(alloc)?,
         &[],
         &[],
@@ -95,7 +96,7 @@ fn straight_texts_are_reported(rt: HostRuntime) -> Result<(), Fail> {
         ),
     ];
     for (text, status, report) in cases {
-        let left = of_text(rt.alloc(), text)?;
+        let left = of_text(rt.alloc(), "sim", text)?;
         assert_eq!(rt; left.status, status, "{text}");
         assert_eq!(rt; left.out.as_slice(), report.as_bytes(), "{text}");
         assert_eq!(rt; left.err.len(), 0, "{text}");
@@ -111,12 +112,27 @@ fn the_cursor_wraps_at_64_bits(rt: HostRuntime) -> Result<(), Fail> {
         text.push_str("    delay_mu(999999999999999999)\n")?;
     }
     text.push_str("    ttl0.on()\n")?;
-    let left = of_text(rt.alloc(), &text)?;
+    let left = of_text(rt.alloc(), "sim", &text)?;
     assert_eq!(rt; left.status, 6);
     assert_eq!(rt;
         left.out.as_slice(),
         b"end raised RTIOUnderflow\ncursor -8446744073709551626\ncounter 0\n".as_slice()
     );
+    Ok(())
+}
+
+// Asserts that a command refuses a text with this line.
+fn expect_refused(
+    rt: &impl Abort,
+    alloc: Global,
+    command: &str,
+    text: &str,
+    line: &str,
+) -> Result<(), Fail> {
+    let left = of_text(alloc, command, text)?;
+    assert_eq!(rt; left.status, 1, "{command}: {text}");
+    assert_eq!(rt; left.out.len(), 0, "{command}: {text}");
+    assert_eq!(rt; left.err.as_slice(), line.as_bytes(), "{command}: {text}");
     Ok(())
 }
 
@@ -132,10 +148,43 @@ fn other_texts_are_refused_by_name_and_place(rt: HostRuntime) -> Result<(), Fail
         ("def main(): pass pass", "syntax 6 17\n"),
         ("def 5():", "syntax 1 4\n"),
         ("def main()", "syntax 4 10\n"),
-        // Not straight: the first wrong line.
+        // Not typed: the line of the first fault, and its kind.
+        ("def f(): pass", "type 1 NoMain\n"),
+        ("def main(x: int32):\n    at_mu(8)\n", "type 1 NoMain\n"),
+        ("def now_mu(): pass", "type 1 Name\n"),
+        ("def main():\n    if 1: pass", "type 2 NotBool\n"),
+        ("def main():\n    ttl99.on()\n", "type 2 Unknown\n"),
+        ("def main():\n    ttl0.write(1, 2)\n", "type 2 Method\n"),
+        ("def main():\n    at_mu()\n", "type 2 Arity\n"),
+        (
+            "def main():\n    a = 1\n    a = now_mu()\n",
+            "type 3 Width\n",
+        ),
+        ("def main():\n    a = 1 + True\n", "type 2 Type\n"),
+        ("def main():\n    a = [0] * 513\n", "type 2 Size\n"),
+        ("def main():\n    break\n", "type 2 BlockExit\n"),
+        (
+            "def main():\n  with core_dma.record(\"p\"):\n    core.reset()\n",
+            "type 3 LiveInRecord\n",
+        ),
+        (
+            "def main():\n  with core_dma.record(\"p\"):\n    with core_dma.record(\"q\"): pass\n",
+            "type 3 NestedRecord\n",
+        ),
+    ];
+    for (text, line) in cases {
+        expect_refused(&rt, rt.alloc(), "sim", text, line)?;
+        expect_refused(&rt, rt.alloc(), "check", text, line)?;
+    }
+    Ok(())
+}
+
+#[test]
+fn kernels_that_are_not_straight_are_refused_by_sim(rt: HostRuntime) -> Result<(), Fail> {
+    let cases = [
         ("def main(): pass", "form 1\n"),
-        ("def f():\n    at_mu(8)\n", "form 1\n"),
-        ("def main(x: int32):\n    at_mu(8)\n", "form 1\n"),
+        ("def f(): at_mu(8)\ndef main(): pass", "form 1\n"),
+        ("def main() -> int64:\n    at_mu(8)\n", "form 1\n"),
         (
             "def main():\n    at_mu(8)\n\ndef f():\n    at_mu(8)\n",
             "form 4\n",
@@ -152,38 +201,81 @@ fn other_texts_are_refused_by_name_and_place(rt: HostRuntime) -> Result<(), Fail
         ("def main():\n    at_mu(1000000000000000000)\n", "form 2\n"),
         ("def main():\n    at_mu(--8)\n", "form 2\n"),
         ("def main():\n    at_mu((8))\n", "form 2\n"),
-        ("def main():\n    at_mu()\n", "form 2\n"),
-        ("def main():\n    at_mu(8, 8)\n", "form 2\n"),
     ];
     for (text, line) in cases {
-        let left = of_text(rt.alloc(), text)?;
-        assert_eq!(rt; left.status, 1, "{text}");
-        assert_eq!(rt; left.out.len(), 0, "{text}");
-        assert_eq!(rt; left.err.as_slice(), line.as_bytes(), "{text}");
+        expect_refused(&rt, rt.alloc(), "sim", text, line)?;
+        assert_eq!(rt; of_text(rt.alloc(), "check", text)?.status, 0, "{text}");
     }
     Ok(())
 }
 
-// One function and a statement a line: 16,384 nodes are allowed, and `pass` isn't straight.
 #[test]
-fn a_program_has_at_most_16384_nodes(rt: HostRuntime) -> Result<(), Fail> {
-    for (lines, told) in [(16383, "form 2\n"), (16384, "code 16385\n")] {
-        let mut text = String::from_str(rt.alloc(), "def main():\n")?;
-        for _ in 0..lines {
-            text.push_str("    pass\n")?;
+fn check_writes_the_canonical_text(rt: HostRuntime) -> Result<(), Fail> {
+    let cases = [
+        ("def main(): pass", "def main():\n    pass\n"),
+        // It runs nothing, keeps no comment, and answers a second text as it answered the first.
+        (
+            "# two\n@kernel\ndef main() :\n  at_mu( 0x10 ) # late\n\n  ttl0 . on()",
+            "def main():\n    at_mu(16)\n    ttl0.on()\n",
+        ),
+        (
+            "def wait(t: int64): delay_mu(t)\ndef main():\n with parallel:\n  wait(8)\n  ttl0.pulse_mu(8)\n",
+            "def wait(t: int64):\n    delay_mu(t)\ndef main():\n    with parallel:\n        wait(8)\n        ttl0.pulse_mu(8)\n",
+        ),
+    ];
+    for (text, canonical) in cases {
+        for given in [text, canonical] {
+            let left = of_text(rt.alloc(), "check", given)?;
+            assert_eq!(rt; left.status, 0, "{given}");
+            assert_eq!(rt; left.out.as_slice(), canonical.as_bytes(), "{given}");
+            assert_eq!(rt; left.err.len(), 0, "{given}");
         }
-        let left = of_text(rt.alloc(), &text)?;
-        assert_eq!(rt; left.status, 1, "{lines} lines");
-        assert_eq!(rt; left.err.as_slice(), told.as_bytes(), "{lines} lines");
     }
     Ok(())
+}
+
+// A `main` of so many lines, with one node each beside its own.
+fn lines_of_pass(alloc: Global, lines: usize) -> Result<String, AllocError> {
+    let mut text = String::from_str(alloc, "def main():\n")?;
+    for _ in 0..lines {
+        text.push_str("    pass\n")?;
+    }
+    Ok(text)
+}
+
+// 16,384 nodes are allowed, and `pass` isn't straight.
+#[test]
+fn sim_takes_at_most_16384_nodes(rt: HostRuntime) -> Result<(), Fail> {
+    for (lines, told) in [(16383, "form 2\n"), (16384, "code 16385\n")] {
+        let text = lines_of_pass(rt.alloc(), lines)?;
+        expect_refused(&rt, rt.alloc(), "sim", &text, told)?;
+    }
+    Ok(())
+}
+
+#[test]
+fn check_takes_at_most_16384_nodes(rt: HostRuntime) -> Result<(), Fail> {
+    let text = lines_of_pass(rt.alloc(), 16383)?;
+    let left = of_text(rt.alloc(), "check", &text)?;
+    assert_eq!(rt; left.status, 0);
+    assert_eq!(rt; left.out.as_slice(), text.as_bytes());
+    let text = lines_of_pass(rt.alloc(), 16384)?;
+    expect_refused(&rt, rt.alloc(), "check", &text, "code 16385\n")
+}
+
+#[test]
+fn types_are_asked_before_nodes(rt: HostRuntime) -> Result<(), Fail> {
+    let mut text = lines_of_pass(rt.alloc(), 16384)?;
+    text.push_str("    not 1\n")?;
+    expect_refused(&rt, rt.alloc(), "check", &text, "type 16386 NotBool\n")
 }
 
 #[test]
 fn other_words_are_refused_unread(rt: HostRuntime) -> Result<(), Fail> {
-    let words: [&[&str]; 7] = [
+    let words: [&[&str]; 8] = [
         &[],
-        &["check"],
+        &["check", "check"],
+        &["check", "--cost", "8"],
         &["sim", "sim"],
         &["sim", "--cost", "8"],
         &["--help"],

@@ -1,19 +1,11 @@
-use Rattle.std.proofs.Common.{◌≤◌, length, arith}
 use Rattle.kern_syntax.specs.TreeOf.{tree_of}
-use Rattle.kern_syntax.specs.Nodes.{program_nodes}
-use Rattle.artiq_sim.specs.Forms.{wrong}
-use Rattle.artiq_sim.proofs.Answering.{few_steps}
+use Rattle.artiq_sim.specs.Forms.{ill}
+use Rattle.artiq_sim.proofs.Answering.{fault_of_type_end}
 use Rattle.artiq_sim.proofs.answer.answer_to_program.Goals as goal
 
-pub run-requires-clause-units : goal.run-requires-clause-units
-run-requires-clause-units c =
-    let straight = rw c.in-Straight.is at c.in_ok-line.ensures in
-    let small : program_nodes (tree_of c.args.program.now) ≤ 16384 = omega (arith, c.nodes-count.ensures) in
-    let few : length c.in-Straight.steps.items ≤ 16384 = few_steps (tree_of c.args.program.now) c.in-Straight.steps.items straight small in
-    rw c.deref.ensures.value (omega (arith, few))
-
-pub returns-in_ok-form_refusal-in-Wrong : goal.returns-in_ok-form_refusal-in-Wrong
-returns-in_ok-form_refusal-in-Wrong c =
-    let first = rw c.in-Wrong.is at c.in_ok-line.ensures in
-    let small : program_nodes (tree_of c.args.program.now) ≤ 16384 = omega (arith, c.nodes-count.ensures) in
-    wrong small c.in-Wrong.line first c.in_ok-form_refusal-in-Wrong.ensures
+pub returns-in_ok-type_refusal-in-Err-Fault : goal.returns-in_ok-type_refusal-in-Err-Fault
+returns-in_ok-type_refusal-in-Err-Fault c =
+    let told = rw (c.in-Err-Fault.line-is, c.in-Err-Fault.kind-is) at c.in_ok-type_refusal-in-Err-Fault.ensures in
+    ill c.in-Err-Fault.line c.in-Err-Fault.kind
+    (fault_of_type_end (tree_of c.args.program) c.in-Err-Fault.field-0 c.in-Err-Fault.line c.in-Err-Fault.kind c.in-Err-Fault.field-0-is c.in-Err-Fault.ensures.fault)
+    told
