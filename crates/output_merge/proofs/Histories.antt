@@ -11,7 +11,7 @@ use Rattle.output_merge.specs.Live.{live, clears}
 use Rattle.output_merge.specs.Outputs.{up_to}
 
 -- a submitted event clears nothing
-any-clears-submitted : (cycle : ℕ) (rest : List Judged) (number at : ℕ) (e : Event) (v : Verdict) → list_any (clears cycle) (rest ++ Submitted number at e v ∷ []) ≡ list_any (clears cycle) rest
+pub any-clears-submitted : (cycle : ℕ) (rest : List Judged) (number at : ℕ) (e : Event) (v : Verdict) → list_any (clears cycle) (rest ++ Submitted number at e v ∷ []) ≡ list_any (clears cycle) rest
 any-clears-submitted cycle [] number at e v = refl
 any-clears-submitted cycle (j ∷ rest) number at e v = ap (λ b. clears cycle j || b) (any-clears-submitted cycle rest number at e v)
 
@@ -26,7 +26,7 @@ live-accepted (Submitted m at' e' Sequence ∷ rest) number at e k = live-accept
 live-accepted (Submitted m at' e' Undecided ∷ rest) number at e k = live-accepted rest number at e k
 live-accepted (Cleared at' ∷ rest) number at e k = live-accepted rest number at e k
 
-any-clears-cleared : (cycle : ℕ) (rest : List Judged) (at : ℕ) → list_any (clears cycle) (rest ++ Cleared at ∷ []) ≡ (list_any (clears cycle) rest || nat_lt at cycle)
+pub any-clears-cleared : (cycle : ℕ) (rest : List Judged) (at : ℕ) → list_any (clears cycle) (rest ++ Cleared at ∷ []) ≡ (list_any (clears cycle) rest || nat_lt at cycle)
 any-clears-cleared cycle [] at = elim (nat_lt at cycle) as (λ b. (b || false) ≡ b) [ true ↦ refl | false ↦ refl ]
 any-clears-cleared cycle (j ∷ rest) at =
     ap (λ b. clears cycle j || b) (any-clears-cleared cycle rest at)

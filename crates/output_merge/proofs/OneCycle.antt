@@ -17,7 +17,7 @@ within-at inner outer x xs false true is_inner is_outer implies ih = rw is_inner
 within-at inner outer x xs false false is_inner is_outer implies ih = ih
 
 -- a wider filter before a narrower one changes nothing
-filter-within : {X : Type 0} (inner outer : X → Bool) (xs : List X) → ((x : X) → inner x ≡ true → outer x ≡ true) → filter inner (filter outer xs) ≡ filter inner xs
+pub filter-within : {X : Type 0} (inner outer : X → Bool) (xs : List X) → ((x : X) → inner x ≡ true → outer x ≡ true) → filter inner (filter outer xs) ≡ filter inner xs
 filter-within inner outer [] implies = refl
 filter-within inner outer (x ∷ xs) implies = within-at inner outer x xs (inner x) (outer x) refl refl (implies x) (filter-within inner outer xs implies)
 
@@ -28,7 +28,7 @@ swap-at test one other x xs false true is_test is_one same ih = rw is_test ih
 swap-at test one other x xs false false is_test is_one same ih = ih
 
 -- two filters in either order, where the second agrees on what passes the first
-filter-swap : {X : Type 0} (test one other : X → Bool) (xs : List X) → ((x : X) → test x ≡ true → other x ≡ one x) → filter test (filter one xs) ≡ filter other (filter test xs)
+pub filter-swap : {X : Type 0} (test one other : X → Bool) (xs : List X) → ((x : X) → test x ≡ true → other x ≡ one x) → filter test (filter one xs) ≡ filter other (filter test xs)
 filter-swap test one other [] same = refl
 filter-swap test one other (x ∷ xs) same = swap-at test one other x xs (test x) (one x) refl refl (same x) (filter-swap test one other xs same)
 

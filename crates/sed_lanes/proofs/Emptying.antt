@@ -107,7 +107,7 @@ pub record GaveOf (cycle : ℕ) (old new : Lane) : Type 0 where
   pub last : new.last ≡ old.last
   pub room : deque_capacity new.held ≡ deque_capacity old.held
 
-filter-short : (test : ℕ × Event → Bool) (ps : List (ℕ × Event)) → length (filter test ps) ≤ length ps
+pub filter-short : (test : ℕ × Event → Bool) (ps : List (ℕ × Event)) → length (filter test ps) ≤ length ps
 filter-short test [] = omega arith
 filter-short test (p ∷ ps) = let ih = filter-short test ps in filter-short-at (test p) ih
   where
@@ -156,7 +156,7 @@ drained-none depth cycle lanes room each = record {
   few = omega arith;
 }
 
-held-drained : (cycle : ℕ) (before : List LaneState) → flat_map (λ (lane : LaneState). lane.held) (map (drained cycle) before) ≡ filter (λ p. not (cycle_of p.1 == cycle)) (flat_map (λ (lane : LaneState). lane.held) before)
+pub held-drained : (cycle : ℕ) (before : List LaneState) → flat_map (λ (lane : LaneState). lane.held) (map (drained cycle) before) ≡ filter (λ p. not (cycle_of p.1 == cycle)) (flat_map (λ (lane : LaneState). lane.held) before)
 held-drained cycle [] = refl
 held-drained cycle (lane ∷ lanes) =
     ap (λ (ps : List (ℕ × Event)). filter (λ p. not (cycle_of p.1 == cycle)) lane.held ++ ps) (held-drained cycle lanes)

@@ -132,14 +132,14 @@ pub record IsUndecided (late takes enters full : Bool) : Type 0 where
 abbrev pub chosen : (late takes enters full : Bool) → ℕ → ℕ → Verdict
 chosen late takes enters full i j = if late then Underflow else if takes then Lane i else if not enters then Sequence else if not full then Lane j else Undecided
 
-undecided-tests : (late takes enters full : Bool) (i j : ℕ) → chosen late takes enters full i j ≡ Undecided → IsUndecided late takes enters full
+pub undecided-tests : (late takes enters full : Bool) (i j : ℕ) → chosen late takes enters full i j ≡ Undecided → IsUndecided late takes enters full
 undecided-tests true takes enters full i j h = absurd (cc)
 undecided-tests false true enters full i j h = absurd (cc)
 undecided-tests false false false full i j h = absurd (cc)
 undecided-tests false false true false i j h = absurd (cc)
 undecided-tests false false true true i j h = record { in_time = refl; refused = refl; entered = refl; filled = refl }
 
-tests-undecided : (late takes enters full : Bool) (i j : ℕ) → IsUndecided late takes enters full → chosen late takes enters full i j ≡ Undecided
+pub tests-undecided : (late takes enters full : Bool) (i j : ℕ) → IsUndecided late takes enters full → chosen late takes enters full i j ≡ Undecided
 tests-undecided late takes enters full i j t = rw (t.in_time, t.refused, t.entered, t.filled) refl
 
 still-refused : (full full' enters enters' : Bool) → enters' ≡ enters → (full' ≡ true → full ≡ true) → (not full' && enters') ≡ false → (not full && enters) ≡ false

@@ -16,7 +16,7 @@ none-held : (n : ℕ) → flat_map (λ (lane : LaneState). lane.held) (replicate
 none-held zero = refl
 none-held (suc n) = none-held n
 
-none-distinct : IsDistinct nat_eq (keys_of {X = Event} [])
+pub none-distinct : IsDistinct nat_eq (keys_of {X = Event} [])
 none-distinct = IsDistinct-from_AllPairs Decides-eqb [] (λ i j d i_lt j_lt. absurd (omega (arith, j_lt)))
 
 -- so many empty lanes

@@ -31,7 +31,7 @@ in-at (x ∷ xs) z (suc k) lt is = let less : k < length xs = omega (arith, lt) 
 pub in-contained : {X : Type 0} (xs : List X) (z : X) → Contains xs z → IsIn z xs
 in-contained xs z c = in-at xs z c.0 c.1 c.2
 
-earlier-strict : IsStrict is_earlier
+pub earlier-strict : IsStrict is_earlier
 earlier-strict = record {
   chain = λ x y z xy yz. grind (arith, nat_tests, xy, yz);
   apart = λ x. grind (arith, nat_tests);
@@ -47,7 +47,7 @@ told-by-number p (q ∷ ps) all =
     told true is differ = inl is
     told false is differ = inr (grind (arith, nat_tests, is, differ))
 
-apart-by-number : (ps : List (ℕ × Event)) → IsDistinct nat_eq (keys_of ps) → AreApart is_earlier ps
+pub apart-by-number : (ps : List (ℕ × Event)) → IsDistinct nat_eq (keys_of ps) → AreApart is_earlier ps
 apart-by-number [] distinct = tt
 apart-by-number (p ∷ ps) distinct =
     (told-by-number p ps (IsDistinct-head nat_eq p.0 (keys_of ps) distinct), apart-by-number ps (IsDistinct-tail nat_eq p.0 (keys_of ps) distinct))

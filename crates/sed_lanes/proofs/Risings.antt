@@ -24,7 +24,7 @@ none-later cycle (p ∷ rest) all =
     let other : (cycle_of p.1 == cycle) ≡ false = grind (arith, nat_tests, parts.0) in
     (rw other ih.0, rw (other, ih.1) refl)
 
-later-than : (cycle : ℕ) (p : ℕ × Event) (rest : List (ℕ × Event)) → cycle ≤ cycle_of p.1 → list_all (λ q. nat_lt (cycle_of p.1) (cycle_of q.1)) rest ≡ true → list_all (λ q. nat_lt cycle (cycle_of q.1)) rest ≡ true
+pub later-than : (cycle : ℕ) (p : ℕ × Event) (rest : List (ℕ × Event)) → cycle ≤ cycle_of p.1 → list_all (λ q. nat_lt (cycle_of p.1) (cycle_of q.1)) rest ≡ true → list_all (λ q. nat_lt cycle (cycle_of q.1)) rest ≡ true
 later-than cycle p [] le all = refl
 later-than cycle p (q ∷ rest) le all =
     let parts = both (nat_lt (cycle_of p.1) (cycle_of q.1)) (list_all (λ q. nat_lt (cycle_of p.1) (cycle_of q.1)) rest) all in
@@ -49,7 +49,7 @@ first-later cycle p rest rise lt =
     let here : nat_lt cycle (cycle_of p.1) ≡ true = grind (arith, nat_tests, lt) in
     none-later cycle (p ∷ rest) (join _ _ here (later-than cycle p rest le parts.0))
 
-all-filter : (keep test : ℕ × Event → Bool) (held : List (ℕ × Event)) → list_all test held ≡ true → list_all test (filter keep held) ≡ true
+pub all-filter : (keep test : ℕ × Event → Bool) (held : List (ℕ × Event)) → list_all test held ≡ true → list_all test (filter keep held) ≡ true
 all-filter keep test [] all = refl
 all-filter keep test (p ∷ rest) all =
     let parts = both (test p) (list_all test rest) all in
@@ -82,7 +82,7 @@ all-append test (x ∷ xs) ys h k =
     let parts = both (test x) (list_all test xs) h in
     rw parts.0 (all-append test xs ys parts.1 k)
 
-below-later : (last : Option ℕ) (held : List (ℕ × Event)) (p : ℕ × Event) → are_up_to last held ≡ true → is_later last (cycle_of p.1) ≡ true → list_all (λ q. nat_lt (cycle_of q.1) (cycle_of p.1)) held ≡ true
+pub below-later : (last : Option ℕ) (held : List (ℕ × Event)) (p : ℕ × Event) → are_up_to last held ≡ true → is_later last (cycle_of p.1) ≡ true → list_all (λ q. nat_lt (cycle_of q.1) (cycle_of p.1)) held ≡ true
 below-later None [] p up later = refl
 below-later None (q ∷ rest) p up later = absurd (cc)
 below-later (Some last) [] p up later = refl

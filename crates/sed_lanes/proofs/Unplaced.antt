@@ -14,7 +14,7 @@ abbrev pub IsUnplaced : Verdict → Type 0
 IsUnplaced (Lane k) = ⊥
 IsUnplaced v = Unit {0}
 
-accepted-unplaced : (judged : List Judged) (j number at : ℕ) (e : Event) (v : Verdict) → IsUnplaced v → accepted_into j (judged ++ Submitted number at e v ∷ []) ≡ accepted_into j judged
+pub accepted-unplaced : (judged : List Judged) (j number at : ℕ) (e : Event) (v : Verdict) → IsUnplaced v → accepted_into j (judged ++ Submitted number at e v ∷ []) ≡ accepted_into j judged
 accepted-unplaced judged j number at e Underflow un = rw (since_clearing-submitted judged number at e Underflow, filter_map-append) (append-nil _)
 accepted-unplaced judged j number at e (Lane k) un = absurd un
 accepted-unplaced judged j number at e Sequence un = rw (since_clearing-submitted judged number at e Sequence, filter_map-append) (append-nil _)

@@ -1,5 +1,5 @@
 -- What the calls of the lanes answer and leave.
-use Rattle.std.specs.Prelude.{◌≡◌, ℕ, Bool, not, ◌==◌, List, length, map, filter, pos, Some, nat_le, nat_lt}
+use Rattle.std.specs.Prelude.{◌≡◌, ℕ, Bool, not, ◌==◌, List, length, map, filter, pos, Option, Some, None, nat_le, nat_lt}
 use Rattle.std.specs.List.{list_all}
 use Rattle.rtio_types.specs.declared.event.Event.{Event}
 use Rattle.rtio_types.specs.Time.{cycle_of}
@@ -27,6 +27,11 @@ Answers s e (Lane k) answer = answer ≡ place.Lane k
 Answers s e Sequence answer = (last : ℕ) × ((lane_at s (next_lane s)).last ≡ Some last) × (answer ≡ place.Sequence (pos last))
 Answers s e Undecided answer = answer ≡ place.Wait (until s e)
 Answers s e Underflow answer = ⊥
+
+-- until when an event of this verdict has to wait
+abbrev pub wait_of : LanesState → Event → Verdict → Option ℕ
+wait_of s e Undecided = Some (until s e)
+wait_of s e v = None
 
 -- the lanes after the verdict: an accepted event is held, any other changes nothing
 abbrev pub after_verdict : LanesState → ℕ → Event → Verdict → LanesState

@@ -2,7 +2,7 @@
 
 ghost use Rattle.std.specs.Prelude.{◌≡◌, ◌≢◌, ◌≤◌, ◌<◌, ◌+◌, ℕ, [], ◌∷◌, ◌++◌, List, IfOk, IsTrue, Some, false, length, pos, true};
 ghost use Rattle.rtio_types.specs.Time.{cycle_of};
-ghost use Rattle.sed_lanes.specs.Calls.{Answers, StandFor, after_verdict, all_held_after, all_held_from, held_at, is_new_number, without};
+ghost use Rattle.sed_lanes.specs.Calls.{Answers, StandFor, after_verdict, all_held_after, all_held_from, held_at, is_new_number, wait_of, without};
 ghost use Rattle.sed_lanes.specs.Heads.{by_number};
 ghost use Rattle.sed_lanes.specs.Judged.{Clear, LaneStep, Submit, judged, next_number};
 ghost use Rattle.sed_lanes.specs.Lanes.{empty_lanes, held_events, is_full, lane_at, may_enter, next_lane, with_accepted};
@@ -121,6 +121,43 @@ impl Lanes {
     {
         self.lanes[lane as usize].accept(number, event);
         self.current = lane;
+    }
+
+    /// How many events a lane holds.
+    pub fn held_by(&self, lane: u32) -> u32
+        requires { lane < length self.now.lanes }
+        ensures { result ≡ length (lane_at self.now lane).held }
+    {
+        self.lanes[lane as usize].held.len() as u32
+    }
+
+    /// How many events all lanes hold.
+    pub fn held(&self) -> u32
+        ensures { result ≡ length (held_events self.now) }
+    {
+        let mut held = 0;
+        for lane in &self.lanes {
+            held += lane.held.len() as u32;
+        }
+        held
+    }
+
+    /// Until when an event has to wait at this counter of cycles: the least cycle that frees a lane which it may enter.
+    /// None where the verdict on it stands at the counter.
+    pub fn wait(&self, counter: u64, event: &Event) -> Option<u64>
+        ensures { result ≡ wait_of self.now event.now (verdict self.now event.now counter) }
+    {
+        let current = self.current;
+        let next = self.next();
+        let late = cycle_of(event) <= counter;
+        let enters = self.may_enter(current, event);
+        if late || (!self.is_full(current) && enters) {
+            return None;
+        }
+        if self.may_enter(next, event) && self.is_full(next) {
+            return Some(self.until(event));
+        }
+        None
     }
 
     /// Places an event by the verdict on it at this counter of cycles. One that waits or is out of sequence leaves the
