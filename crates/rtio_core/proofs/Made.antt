@@ -1,0 +1,64 @@
+-- The parts of a new core.
+use Rattle.std.proofs.Common.{◌≡◌, ◌≤◌, ℕ, zero, suc, ◌+◌, [], ◌∷◌, map, replicate, refl, sym, ◌∙◌, ap, arith, length}
+use Rattle.std.specs.Prelude.{IsTrue, None, Vec, pos, vec_len}
+use Rattle.std.proofs.Common.{lit<}
+use Rattle.std.specs.declared.alloc.Global.{Global}
+use Rattle.std.specs.List.{range_with_len}
+use Rattle.sed_lanes.specs.Lanes.{empty_lanes, held_events}
+use Rattle.rtio_core.specs.declared.data.Config.{Config}
+use Rattle.rtio_core.specs.declared.data.Entry.{Entry}
+use Rattle.rtio_core.specs.Entries.{is_config_ok}
+use Rattle.sed_lanes.proofs.Unplaced.{lanes_after-nothing}
+use Rattle.rtio_core.specs.declared.outputs.Outputs.{Outputs}
+use Rattle.rtio_core.specs.Played.{IsPlayed}
+use Rattle.rtio_core.specs.Fields.{IsCoreInside}
+
+peaks-none : (from lanes : ℕ) → map {B = ℕ} (λ k. 0) (range_with_len from lanes) ≡ replicate lanes 0
+peaks-none from zero = refl
+peaks-none from (suc lanes) = ap (λ ps. 0 ∷ ps) (peaks-none (from + 1) lanes)
+
+pub held-none : (lanes depth : ℕ) → held_events (empty_lanes lanes depth) ≡ []
+held-none zero depth = refl
+held-none (suc lanes) depth = held-none lanes depth
+
+-- outputs without any step
+pub played-new : (lanes depth : ℕ) (o : Outputs) → 1 ≤ lanes → lanes ≤ 32 → 1 ≤ depth → o.lanes ≡ empty_lanes lanes depth → o.log ≡ record { lines = []; room = 0 } → o.put_out.items ≡ [] → vec_len o.put_out ≡ 0 → o.peaks.items ≡ replicate lanes 0 → o.number ≡ 0 → o.greatest ≡ 0 → o.reached ≡ 0 → o.heads ≡ record { items = []; room = 32 } → o.kept ≡ record { items = []; room = 32 } → o.collided ≡ record { items = []; room = 32 } → IsPlayed o lanes depth [] 0
+played-new lanes depth o some few deep is_empty no_lines no_output short zeros no_number no_greatest no_reached is_heads is_kept is_collided =
+    let held : length (held_events o.lanes) ≡ 0 = rw (is_empty, held-none lanes depth) refl in
+    record {
+      lanes_least = some;
+      lanes_most = few;
+      depth_least = deep;
+      in_time = omega arith;
+      standing = is_empty ∙ sym (lanes_after-nothing lanes depth [] 0 refl);
+      put_out = no_output;
+      log = rw no_lines (record { sequence = refl; collided = refl; cleared = refl });
+      peaks = zeros ∙ sym (peaks-none 0 lanes);
+      number = no_number;
+      greatest = no_greatest;
+      reached = no_reached;
+      small = rw no_greatest (lit< tt);
+      output_room = rw held (omega (arith, short));
+      log_room = rw held (omega arith);
+      heads = is_heads;
+      kept = is_kept;
+      collided = is_collided;
+    }
+
+-- what `new` makes is what an empty history makes of it
+pub new_keeps : (config : Config) (entries : Vec Entry Global) (outputs : Outputs) → IsTrue (is_config_ok config) → entries.items ≡ [] → IsPlayed outputs config.lanes config.depth [] 0 → IsCoreInside (record { config = config; entries = entries; count = 0; pending = None; outputs = outputs; session = None; cursor = pos 0; limit = 0 })
+new_keeps config entries outputs ok none played =
+    record {
+      core = record {
+        config = ok;
+        lawful = rw none tt;
+        fitting = rw none tt;
+        reached = rw none (omega arith);
+        bounded = omega arith;
+      };
+      pending = λ _. refl;
+      played = rw none played;
+      session = rw none refl;
+      cursor = rw none refl;
+      limit = rw none refl;
+    }

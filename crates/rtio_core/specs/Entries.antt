@@ -1,0 +1,72 @@
+-- The history of a core.
+use Rattle.std.specs.Prelude.{ℕ, ◌+◌, Bool, ◌&&◌, List, filter_map, fold, max, nat_le, ℤ, pos, Option, Some, None}
+use Rattle.rtio_types.specs.declared.request.Request.TheVariants as ask
+use Rattle.rtio_types.specs.Time.{reading}
+use Rattle.sed_lanes.specs.Judged.{LaneStep, Submit, Clear, Judged, judged}
+use Rattle.rtio_core.specs.declared.data.Config.{Config}
+use Rattle.rtio_core.specs.declared.data.Act.{Act}
+use Rattle.rtio_core.specs.declared.data.Act.TheVariants.{Start, Asked, End}
+use Rattle.rtio_core.specs.declared.data.Entry.{Entry}
+
+-- the numbers of the settings are in their ranges: 1 to 32 lanes of 1 to 1,024 events, a cost of up to 1,000,000 mu, and a
+-- horizon of 1 to 134,217,728 cycles
+abbrev pub is_config_ok : Config → Bool
+is_config_ok config =
+    nat_le 1 config.lanes && nat_le config.lanes 32
+    && nat_le 1 config.depth && nat_le config.depth 1024
+    && nat_le config.cost 1000000
+    && nat_le 1 config.horizon && nat_le config.horizon 134217728
+
+-- the counter at which the entry was made
+abbrev pub act_at : Act → ℕ
+act_at (Start of cursor at) = at
+act_at (Asked request reply at) = at
+act_at (End outcome cursor at) = at
+
+-- the counter of the last entry, 0 if there is none
+abbrev pub last_at : List Entry → ℕ
+last_at history = fold (λ _ (entry : Entry). act_at entry.act) 0 history
+
+-- the chair and the run of the open session, if there is one
+abbrev pub open_session : List Entry → Option (ℕ × ℕ)
+open_session history = fold goes_on None history
+  where
+    goes_on : Option (ℕ × ℕ) → Entry → Option (ℕ × ℕ)
+    goes_on running entry = after running entry.chair entry.act
+      where
+        after : Option (ℕ × ℕ) → ℕ → Act → Option (ℕ × ℕ)
+        after running chair (Start of cursor at) = Some (chair, of.rid)
+        after running chair (Asked request reply at) = running
+        after running chair (End outcome cursor at) = None
+
+-- the cursor of the last end, 0 if there is none
+abbrev pub last_cursor : List Entry → ℤ
+last_cursor history = fold (λ cursor (entry : Entry). after cursor entry.act) (pos 0) history
+  where
+    after : ℤ → Act → ℤ
+    after cursor (End outcome end at) = end
+    after cursor act = cursor
+
+-- the limit of the open session in machine units: what the counter reads at its start; after each request the greater
+-- of itself and what the counter reads, and the cost
+abbrev pub limit : ℕ → List Entry → ℕ
+limit cost history = fold (λ so_far (entry : Entry). after so_far entry.act) 0 history
+  where
+    after : ℕ → Act → ℕ
+    after so_far (Start of cursor at) = reading at
+    after so_far (Asked request reply at) = max so_far (reading at) + cost
+    after so_far (End outcome cursor at) = so_far
+
+-- what an entry is to the lanes
+abbrev pub lane_step : Act → Option LaneStep
+lane_step (Asked (ask.Out e) reply at) = Some (Submit at e)
+lane_step (Asked ask.Reset reply at) = Some (Clear at)
+lane_step act = None
+
+-- the outputs and resets of the history
+abbrev pub lane_steps : List Entry → List LaneStep
+lane_steps history = filter_map (λ (entry : Entry). lane_step entry.act) history
+
+-- the same with the verdicts
+abbrev pub judged_history : Config → List Entry → List Judged
+judged_history config history = judged config.lanes config.depth (lane_steps history)

@@ -1,0 +1,12 @@
+pub mod Entries
+pub mod Answers
+pub mod Reply
+pub mod Top
+pub mod Lawful
+pub mod Told
+pub mod Core
+pub mod Calls
+pub mod Lines
+pub mod Played
+pub mod Fields
+pub mod Errors

@@ -1,0 +1,12 @@
+//! One core: a lawful history of requests with the right replies, and the counter that puts its outputs out.
+#![tactic(auto)]
+
+mod data;
+mod one_core;
+mod outputs;
+mod replies;
+#[cfg(test)]
+mod tests;
+
+pub use data::{Act, Ask, Config, Entry, StartEnd, StartOf, Tick, config_ok};
+pub use one_core::Core;

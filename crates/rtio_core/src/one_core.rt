@@ -1,0 +1,177 @@
+// The core.
+
+mod asking;
+mod ticking;
+
+ghost use Rattle.std.specs.Prelude.{◌≡◌, ◌≢◌, ◌↔◌, ◌≤◌, ◌<◌, List, ℕ, [], ◌∷◌, ◌++◌, IfOk, IfErr, OnOk, OnErr, IsTrue, IsSome, Some, None, Ok, Err, option_map};
+ghost use Rattle.rtio_core.specs.Entries.{is_config_ok, last_cursor, open_session};
+ghost use Rattle.rtio_core.specs.Reply.{outputs_at};
+ghost use Rattle.rtio_core.specs.Lawful.{IsOpenFor};
+ghost use Rattle.rtio_core.specs.Told.{TellsLog, log_at, peaks_at};
+ghost use Rattle.rtio_core.specs.Core.{CoreState, IsCore, new_core, core_top};
+ghost use Rattle.rtio_core.specs.Calls.{started, ended, MayEnd};
+
+use crate::outputs::Outputs;
+use crate::{Act, Config, Entry, StartEnd, StartOf};
+use rtio_log::LogLine;
+use rtio_types::{Event, Outcome, Waiting};
+use std::alloc::{AllocError, Global};
+use std::marker::Model;
+
+/// One core. Contracts see it as its settings, its history, its counter and the request that waits: all else that it
+/// tells is what these make of it.
+#[derive(Debug, Drop)]
+pub struct Core {
+    config: Config,
+    entries: Vec<Entry>,
+    count: u64,
+    pending: Option<Waiting>,
+    outputs: Outputs,
+    session: Option<(u32, u64)>,
+    cursor: i64,
+    limit: u64,
+}
+
+impl Model for Core {
+    ghost use Rattle.rtio_core.specs.Core.{CoreState};
+
+    ghost Value = { CoreState };
+
+    ghost use Rattle.rtio_core.specs.Fields.{core_state, IsCoreInside};
+
+    ghost view = { core_state };
+
+    ghost invariant = { IsCoreInside };
+}
+
+impl Core {
+    /// A core at counter 0, with an empty history. It has no inputs yet, so it takes no edges.
+    pub fn new(alloc: Global, config: Config) -> Result<Core, AllocError>
+        requires config { IsTrue (is_config_ok config) }
+        requires edges { config.edges ≡ [] }
+        ensures { IfOk result (λ core. core ≡ new_core config) }
+    {
+        let outputs = Outputs::new(alloc, config.lanes, config.depth)?;
+        Ok(Core {
+            config,
+            entries: Vec::new(alloc),
+            count: 0,
+            pending: None,
+            outputs,
+            session: None,
+            cursor: 0,
+            limit: 0,
+        })
+    }
+
+    /// Starts a session at the cursor (mu) at which the last one ended, 0 if there was none, and answers that cursor.
+    /// It is refused where a session is open, and for want of memory.
+    pub fn start(&mut self, alloc: Global, who: u32, of: StartOf) -> Result<i64, StartEnd>
+        ensures free { OnOk result (open_session self.old.history ≡ None) }
+        ensures cursor { IfOk result (λ cursor. cursor ≡ last_cursor self.old.history) }
+        ensures ok { IfOk result (λ cursor. self.new ≡ started self.old who of cursor) }
+        // Busy exactly where a session is open.
+        ensures busy { (rid : ℕ) → result ≡ Err (StartEnd.Busy rid) → (chair : ℕ) × (open_session self.old.history ≡ Some (chair, rid)) }
+        ensures memory { result ≡ Err StartEnd.Memory → open_session self.old.history ≡ None }
+        ensures err { OnErr result (self.new ≡ self.old) }
+    {
+        if let Some((_, rid)) = self.session {
+            return Err(StartEnd::Busy { rid });
+        }
+        if self.entries.reserve(1).is_err() {
+            return Err(StartEnd::Memory);
+        }
+        let rid = of.rid;
+        let cursor = self.cursor;
+        let at = self.count;
+        let act = Act::Start { of, cursor, at };
+        self.entries.push_reserved(Entry { chair: who, act });
+        self.session = Some((who, rid));
+        self.limit = 8 * at;
+        Ok(cursor)
+    }
+
+    /// Ends the session. The waiting request, if there is one, is dropped.
+    pub fn end(
+        &mut self,
+        alloc: Global,
+        who: u32,
+        outcome: Outcome,
+        cursor: i64,
+    ) -> Result<(), AllocError>
+        requires open { IsOpenFor who self.old.history }
+        requires waiting { MayEnd self.old.waiting outcome }
+        ensures ok { OnOk result (self.new ≡ ended self.old who outcome cursor) }
+        ensures err { OnErr result (self.new ≡ self.old) }
+    {
+        let at = self.count;
+        let act = Act::End {
+            outcome,
+            cursor,
+            at,
+        };
+        self.entries.push(Entry { chair: who, act })?;
+        self.pending = None;
+        self.session = None;
+        self.cursor = cursor;
+        Ok(())
+    }
+
+    /// The counter, in cycles.
+    pub fn counter(&self) -> u64
+        ensures { result ≡ self.now.counter }
+    {
+        self.count
+    }
+
+    /// The last cycle that the counter reaches.
+    pub fn horizon(&self) -> u64
+        ensures { result ≡ self.now.config.horizon }
+    {
+        self.config.horizon
+    }
+
+    /// The events put out so far, by stamp and channel.
+    pub fn trace(&self) -> &[Event]
+        ensures { result.now ≡ outputs_at self.now.config self.now.history self.now.counter }
+    {
+        &self.outputs.put_out
+    }
+
+    /// Which events were not put out so far, and why: those of each kind in their order.
+    pub fn log(&self) -> &[LogLine]
+        ensures { TellsLog (log_at self.now.config self.now.history self.now.counter) result.now }
+    {
+        self.outputs.log.lines()
+    }
+
+    /// The history. It is lawful, each request in it is one that a core can be asked, and the counter is no further than
+    /// it may be.
+    pub fn history(&self) -> &[Entry]
+        ensures value { result.now ≡ self.now.history }
+        ensures core { IsCore self.now }
+    {
+        &self.entries
+    }
+
+    /// The chair and the run of the open session.
+    pub fn session(&self) -> Option<(u32, u64)>
+        ensures { result ≡ open_session self.now.history }
+    {
+        self.session
+    }
+
+    /// The request that waits.
+    pub fn waiting(&self) -> Option<Waiting>
+        ensures { result ≡ self.now.waiting }
+    {
+        self.pending
+    }
+
+    /// The greatest number of events that each lane held just after one was accepted into it, 0 if none was.
+    pub fn peaks(&self) -> &[u32]
+        ensures { result.now ≡ peaks_at self.now.config self.now.history }
+    {
+        &self.outputs.peaks
+    }
+}

@@ -1,0 +1,194 @@
+// Asking a core.
+
+ghost use Rattle.std.specs.Prelude.{◌≡◌, ◌≢◌, ◌≤◌, ◌<◌, ◌+◌, ◌^◌, IfOk, IfErr, OnOk, OnErr, IsTrue, IsSome, Some, None, Ok, Err, length, vec_len, vec_capacity, [], ◌∷◌, ◌++◌};
+ghost use Rattle.rtio_types.specs.declared.event.Event.{Event};
+ghost use Rattle.rtio_types.specs.declared.request.Reply.{Reply};
+ghost use Rattle.rtio_types.specs.declared.request.Request.TheVariants as kind;
+ghost use Rattle.rtio_types.specs.Requests.{is_well_formed};
+ghost use Rattle.rtio_types.specs.Time.{cycle_of};
+ghost use Rattle.sed_lanes.specs.Verdict.{Undecided};
+ghost use Rattle.rtio_core.specs.Answers.{is_plain, plain_reply};
+ghost use Rattle.rtio_core.specs.Reply.{is_served, reply_to, verdict_at};
+ghost use Rattle.rtio_core.specs.Lawful.{IsOpenFor};
+ghost use Rattle.rtio_core.specs.Calls.{AnswersAsk, NoOtherWaits};
+ghost use Rattle.rtio_core.specs.Errors.{SequenceHasReason, UnderflowHasReason};
+
+use super::Core;
+use crate::replies::{is_waiting, plain_reply, raised, reaching, reads};
+use crate::{Act, Ask, Entry};
+use rtio_types::{Event, Reply, Request, Waiting};
+use sed_lanes::cycle_of;
+use std::alloc::Global;
+
+impl Core {
+    /// Asks for a reply. A request that isn't decided at the counter waits from then on; while one waits, no other is
+    /// answered. For want of memory the request is handed back, and the core stands as before.
+    pub fn ask(&mut self, alloc: Global, who: u32, request: Request) -> Result<Ask, Request>
+        requires open { IsOpenFor who self.old.history }
+        requires request { IsTrue (is_well_formed request) }
+        requires served { IsTrue (is_served request) }
+        ensures answer { IfOk result (λ answer. AnswersAsk self.old who request answer self.new) }
+        ensures back { IfErr result (λ back. back ≡ request) }
+        ensures err { OnErr result (self.new ≡ self.old) }
+        // An output later than all that were accepted since the last reset isn't out of sequence, and one later than the
+        // limit doesn't underflow.
+        ensures sequence { (e : Event) → request ≡ kind.Out e → SequenceHasReason self.old.config self.old.history e self.old.counter }
+        ensures underflow { (e : Event) (reply : Reply) → request ≡ kind.Out e → result ≡ Ok (Ask.Reply reply)
+            → UnderflowHasReason self.old.config self.old.history e reply }
+        // Want of memory comes only where there would have been a reply.
+        ensures memory { OnErr result (NoOtherWaits self.old.waiting request × IsSome (reply_to self.old.config self.old.history request self.old.counter)) }
+    {
+        if let Some(waiting) = self.pending {
+            if !is_waiting(waiting, &request) {
+                return Ok(Ask::OtherPending { waiting, request });
+            }
+        }
+        match request {
+            Request::Out(event) => self.ask_output(who, event),
+            Request::Reset => self.reset(alloc, who),
+            Request::Wait { until } => self.ask_wait(who, until),
+            request => self.answer_plain(who, request),
+        }
+    }
+
+    /// Answers a request that is decided, and that leaves the lanes alone.
+    fn answer_plain(&mut self, who: u32, request: Request) -> Result<Ask, Request>
+        requires open { IsOpenFor who self.old.history }
+        requires request { IsTrue (is_well_formed request) }
+        requires waiting { NoOtherWaits self.old.waiting request }
+        requires plain { IsTrue (is_plain request) }
+        requires decided { reply_to self.old.config self.old.history request self.old.counter ≡ Some (plain_reply request self.old.counter) }
+        ensures answer { IfOk result (λ answer. AnswersAsk self.old who request answer self.new) }
+        ensures back { IfErr result (λ back. back ≡ request) }
+        ensures err { OnErr result (self.new ≡ self.old) }
+    {
+        if self.entries.reserve(1).is_err() {
+            return Err(request);
+        }
+        let at = self.count;
+        let answer = plain_reply(&request, at);
+        let reply = plain_reply(&request, at);
+        let act = Act::Asked { request, reply, at };
+        self.entries.push_reserved(Entry { chair: who, act });
+        self.pending = None;
+        self.limit = raised(self.limit, at, self.config.cost);
+        Ok(Ask::Reply(answer))
+    }
+
+    /// Waits until the counter reads a moment (mu).
+    fn ask_wait(&mut self, who: u32, until: i64) -> Result<Ask, Request>
+        requires open { IsOpenFor who self.old.history }
+        requires waiting { NoOtherWaits self.old.waiting (kind.Wait until) }
+        ensures answer { IfOk result (λ answer. AnswersAsk self.old who (kind.Wait until) answer self.new) }
+        ensures back { IfErr result (λ back. back ≡ kind.Wait until) }
+        ensures err { OnErr result (self.new ≡ self.old) }
+        ensures memory { OnErr result (IsSome (reply_to self.old.config self.old.history (kind.Wait until) self.old.counter)) }
+    {
+        if until <= reads(self.count) {
+            return self.answer_plain(who, Request::Wait { until });
+        }
+        let waiting = Waiting::Wait { until };
+        self.pending = Some(waiting);
+        Ok(Ask::NotYet {
+            until: reaching(until),
+            waiting,
+        })
+    }
+
+    /// Puts an output on the timeline.
+    fn ask_output(&mut self, who: u32, event: Event) -> Result<Ask, Request>
+        requires open { IsOpenFor who self.old.history }
+        requires request { IsTrue (is_well_formed (kind.Out event)) }
+        requires waiting { NoOtherWaits self.old.waiting (kind.Out event) }
+        ensures answer { IfOk result (λ answer. AnswersAsk self.old who (kind.Out event) answer self.new) }
+        ensures back { IfErr result (λ back. back ≡ kind.Out event) }
+        ensures err { OnErr result (self.new ≡ self.old) }
+        ensures memory { OnErr result (IsSome (reply_to self.old.config self.old.history (kind.Out event) self.old.counter)) }
+    {
+        if cycle_of(&event) <= self.count {
+            return self.miss(who, event);
+        }
+        if let Some(until) = self.outputs.lanes.wait(self.count, &event) {
+            let waiting = Waiting::Out(event);
+            self.pending = Some(waiting);
+            return Ok(Ask::NotYet { until, waiting });
+        }
+        self.place(who, event)
+    }
+
+    /// Answers an output that comes too late.
+    fn miss(&mut self, who: u32, event: Event) -> Result<Ask, Request>
+        requires open { IsOpenFor who self.old.history }
+        requires request { IsTrue (is_well_formed (kind.Out event)) }
+        requires waiting { NoOtherWaits self.old.waiting (kind.Out event) }
+        requires late { cycle_of event ≤ self.old.counter }
+        ensures answer { IfOk result (λ answer. AnswersAsk self.old who (kind.Out event) answer self.new) }
+        ensures back { IfErr result (λ back. back ≡ kind.Out event) }
+        ensures err { OnErr result (self.new ≡ self.old) }
+    {
+        if self.entries.reserve(1).is_err() {
+            return Err(Request::Out(event));
+        }
+        let at = self.count;
+        self.outputs.miss(at, event);
+        let act = Act::Asked {
+            request: Request::Out(event),
+            reply: Reply::Underflow,
+            at,
+        };
+        self.entries.push_reserved(Entry { chair: who, act });
+        self.pending = None;
+        self.limit = raised(self.limit, at, self.config.cost);
+        Ok(Ask::Reply(Reply::Underflow))
+    }
+
+    /// Answers an output that a lane takes, or that is out of sequence.
+    fn place(&mut self, who: u32, event: Event) -> Result<Ask, Request>
+        requires open { IsOpenFor who self.old.history }
+        requires request { IsTrue (is_well_formed (kind.Out event)) }
+        requires waiting { NoOtherWaits self.old.waiting (kind.Out event) }
+        requires later { self.old.counter < cycle_of event }
+        requires decided { verdict_at self.old.config self.old.history event self.old.counter ≢ Undecided }
+        ensures answer { IfOk result (λ answer. AnswersAsk self.old who (kind.Out event) answer self.new) }
+        ensures back { IfErr result (λ back. back ≡ kind.Out event) }
+        ensures err { OnErr result (self.new ≡ self.old) }
+    {
+        if self.entries.reserve(1).is_err() || self.outputs.take_room().is_err() {
+            return Err(Request::Out(event));
+        }
+        let at = self.count;
+        self.outputs.place(at, event);
+        let act = Act::Asked {
+            request: Request::Out(event),
+            reply: Reply::Done,
+            at,
+        };
+        self.entries.push_reserved(Entry { chair: who, act });
+        self.pending = None;
+        self.limit = raised(self.limit, at, self.config.cost);
+        Ok(Ask::Reply(Reply::Done))
+    }
+
+    /// Clears what isn't put out yet.
+    fn reset(&mut self, alloc: Global, who: u32) -> Result<Ask, Request>
+        requires open { IsOpenFor who self.old.history }
+        requires waiting { NoOtherWaits self.old.waiting kind.Reset }
+        ensures answer { IfOk result (λ answer. AnswersAsk self.old who kind.Reset answer self.new) }
+        ensures back { IfErr result (λ back. back ≡ kind.Reset) }
+        ensures err { OnErr result (self.new ≡ self.old) }
+    {
+        let at = self.count;
+        if self.entries.reserve(1).is_err() || self.outputs.clear(alloc, at).is_err() {
+            return Err(Request::Reset);
+        }
+        let act = Act::Asked {
+            request: Request::Reset,
+            reply: Reply::Time(reads(at)),
+            at,
+        };
+        self.entries.push_reserved(Entry { chair: who, act });
+        self.pending = None;
+        self.limit = raised(self.limit, at, self.config.cost);
+        Ok(Ask::Reply(Reply::Time(reads(at))))
+    }
+}

@@ -1,0 +1,86 @@
+// The counter of a core.
+
+ghost use Rattle.std.specs.Prelude.{◌≡◌, ◌↔◌, ◌≤◌, ◌<◌, ◌+◌, IsTrue, Some, None, not};
+ghost use Rattle.rtio_types.specs.Requests.{request_waiting};
+ghost use Rattle.rtio_core.specs.Reply.{is_decided};
+ghost use Rattle.rtio_core.specs.Core.{core_top};
+ghost use Rattle.rtio_core.specs.Calls.{AnswersTick, has_to_wait, told_limit};
+ghost use Rattle.rtio_core.specs.Errors.{CollisionsHaveReason};
+
+use super::Core;
+use crate::Tick;
+use crate::replies::reads;
+use rtio_types::Waiting;
+
+impl Core {
+    /// Raises the counter by one cycle, if it may go on: in an open session while it is within the limit, or a request
+    /// waits that isn't decided; with no session open until every accepted event is put out. It ends at the horizon.
+    pub fn tick(&mut self) -> Tick
+        ensures answer { AnswersTick self.old result self.new }
+        // Events collide only with others of their channel and cycle.
+        ensures collisions { CollisionsHaveReason self.new.config self.new.history }
+    {
+        if self.count == self.config.horizon {
+            return Tick::Horizon;
+        }
+        if !self.goes_on() {
+            return Tick::Held {
+                limit: self.told_limit(),
+            };
+        }
+        self.outputs.advance(self.count);
+        self.count += 1;
+        Tick::Went
+    }
+
+    /// Whether the next tick wouldn't raise the counter.
+    pub fn stopped(&self) -> bool
+        ensures { IsTrue result ↔ (self.now.counter ≡ core_top self.now) }
+    {
+        self.count == self.config.horizon || !self.goes_on()
+    }
+
+    /// Whether the counter may rise, below the horizon.
+    fn goes_on(&self) -> bool
+        requires { self.now.counter < self.now.config.horizon }
+        ensures { IsTrue result ↔ (self.now.counter < core_top self.now) }
+    {
+        match self.session {
+            None => self.count < self.outputs.greatest,
+            Some(_) => self.count < self.limit / 8 || self.waits(),
+        }
+    }
+
+    /// Whether a request waits that isn't decided.
+    fn waits(&self) -> bool
+        ensures { result ≡ has_to_wait self.now }
+    {
+        match self.pending {
+            None => false,
+            Some(waiting) => self.is_undecided(waiting),
+        }
+    }
+
+    /// Whether a request isn't decided at the counter.
+    fn is_undecided(&self, waiting: Waiting) -> bool
+        ensures { result ≡ not (is_decided self.now.config self.now.history (request_waiting waiting) self.now.counter) }
+    {
+        match waiting {
+            Waiting::Out(event) => self.outputs.lanes.wait(self.count, &event).is_some(),
+            Waiting::Wait { until } => reads(self.count) < until,
+            Waiting::Edge { .. } => true,
+        }
+    }
+
+    /// How far the session's answers reach (mu), or with no session open the events.
+    fn told_limit(&self) -> u64
+        requires below { self.now.counter < self.now.config.horizon }
+        requires top { self.now.counter ≡ core_top self.now }
+        ensures { result ≡ told_limit self.now }
+    {
+        match self.session {
+            None => 8 * self.outputs.greatest,
+            Some(_) => self.limit,
+        }
+    }
+}

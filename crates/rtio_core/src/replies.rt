@@ -1,0 +1,60 @@
+// What a core replies, and what that costs.
+
+ghost use Rattle.std.specs.Prelude.{◌≡◌, ◌≤◌, ◌<◌, ◌+◌, ◌-◌, ◌^◌, ◌↔◌, IsTrue, min, max, pos, not};
+ghost use Rattle.rtio_types.specs.Requests.{request_waiting};
+ghost use Rattle.rtio_types.specs.Time.{counter_reaching, reading};
+ghost use Rattle.rtio_core.specs.Answers.{plain_reply};
+
+use rtio_types::{Reply, Request, Waiting};
+
+/// Whether this is the request that waits.
+pub fn is_waiting(waiting: Waiting, request: &Request) -> bool
+    ensures { IsTrue result ↔ (request_waiting waiting ≡ request.now) }
+{
+    match (waiting, request) {
+        (Waiting::Out(event), Request::Out(other)) => event == *other,
+        (Waiting::Wait { until }, Request::Wait { until: other }) => until == *other,
+        (
+            Waiting::Edge { channel, up_to },
+            Request::Edge {
+                channel: other,
+                up_to: bound,
+            },
+        ) => { channel == *other && up_to == *bound }
+        _ => false,
+    }
+}
+
+/// What the counter reads, in mu.
+pub fn reads(counter: u64) -> i64
+    requires { counter ≤ 2 ^ 28 }
+    ensures { result ≡ pos (reading counter) }
+{
+    8 * counter as i64
+}
+
+/// The least counter that reads at least this moment (mu).
+pub fn reaching(moment: i64) -> u64
+    ensures { result ≡ counter_reaching moment }
+{
+    (moment.max(0) as u64).div_ceil(8)
+}
+
+/// The reply to a request that is no output, once it is decided.
+pub fn plain_reply(request: &Request, counter: u64) -> Reply
+    requires { counter ≤ 2 ^ 28 }
+    ensures { result ≡ plain_reply request.now counter }
+{
+    match request {
+        Request::Counter | Request::Reset => Reply::Time(reads(counter)),
+        _ => Reply::Done,
+    }
+}
+
+/// The limit (mu) after a request that was answered at this counter; it stands still at the end of its type.
+pub fn raised(limit: u64, at: u64, cost: u64) -> u64
+    requires { at ≤ 2 ^ 28 }
+    ensures { result ≡ min (max limit (reading at) + cost) (2 ^ 64 - 1) }
+{
+    limit.max(8 * at).saturating_add(cost)
+}
