@@ -1,0 +1,35 @@
+//! What holds of every store, and of all recording bytes.
+
+ghost use Rattle.std.specs.Prelude.{◌≡◌, ◌<◌, ◌≤◌, ◌^◌, ◌++◌, ◌↔◌, ℕ, ℤ, List, [], None, Some, length, slice_index, IsTrue};
+ghost use Rattle.rtio_types.specs.Recordings.{Recorded};
+ghost use Rattle.dma_store.specs.Kept.{KeptState, handle_of, is_old, next_epoch, recording_handled, recording_named};
+ghost use Rattle.dma_store.specs.Spelling.{IsSpelling, first_wrong, spelling};
+
+/// As long as nothing is saved or erased, the handle of a name fetches what the name does.
+pub fn handles_fetch_what_they_name()
+    ensures { (kept : KeptState) (name : List ℕ) (handle : ℤ) → length kept.entries ≤ 4096 →
+        handle_of kept name ≡ Some handle → recording_handled kept handle ≡ recording_named kept name }
+{}
+
+/// In the next epoch, which each save and each erase begins, a handle is old.
+pub fn handles_grow_old()
+    ensures { (kept next : KeptState) (name : List ℕ) (handle : ℤ) → length kept.entries ≤ 4096 → kept.epoch < 2 ^ 50 →
+        handle_of kept name ≡ Some handle → next.epoch ≡ next_epoch kept.epoch → IsTrue (is_old next handle) }
+{}
+
+/// Bytes have no wrong field exactly where they spell a recording.
+pub fn right_bytes_are_spellings()
+    ensures { (bytes : List ℕ) → ((i : ℕ) → slice_index bytes i < 256) →
+        (first_wrong bytes ≡ None) ↔ ((recording : Recorded) × IsSpelling bytes recording) }
+{}
+
+/// The same bytes spell one recording at most.
+pub fn a_spelling_has_one_recording()
+    ensures { (bytes : List ℕ) (first second : Recorded) → IsSpelling bytes first → IsSpelling bytes second → first ≡ second }
+{}
+
+/// No spelling begins another one.
+pub fn no_spelling_begins_another()
+    ensures { (front rest : List ℕ) (first second : Recorded) → IsSpelling front first → IsSpelling (front ++ rest) second →
+        rest ≡ [] }
+{}

@@ -1,0 +1,15 @@
+//! Recordings that a core keeps by name until they are erased, as the ARTIQ manual's DMA does, and the bytes of one.
+#![tactic(auto)]
+
+mod bytes;
+mod laws;
+mod store;
+#[cfg(test)]
+mod tests;
+
+pub use bytes::{DmaEnd, decode, encode};
+pub use laws::{
+    a_spelling_has_one_recording, handles_fetch_what_they_name, handles_grow_old,
+    no_spelling_begins_another, right_bytes_are_spellings,
+};
+pub use store::{FetchEnd, HandleEnd, NoTrace, SaveEnd, Store};
