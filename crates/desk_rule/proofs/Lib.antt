@@ -1,0 +1,11 @@
+pub mod Prefixes
+pub mod Weights
+pub mod Seats
+pub mod Changed
+pub mod Trying
+pub mod Putting
+pub mod Making
+pub mod Merging
+pub mod Settling
+pub mod Closing
+pub mod Known
