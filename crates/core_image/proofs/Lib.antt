@@ -1,0 +1,13 @@
+pub mod Converted
+pub mod Described
+pub mod Exact
+pub mod ExactCode
+pub mod ExactFields
+pub mod Faults
+pub mod Images
+pub mod InstrFits
+pub mod Loop
+pub mod SameCode
+pub mod Sizes
+pub mod Spots
+pub mod Verifiable

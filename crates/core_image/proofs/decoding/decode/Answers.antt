@@ -1,0 +1,36 @@
+use Rattle.std.proofs.Common.{arith}
+use Rattle.core_image.proofs.Images.{all_read, some_left, only_code, read_image, within, fault_at_stop, no_image_stops, stopped}
+use Rattle.core_image.proofs.decoding.decode.Goals as goal
+
+pub fault_at-requires-clause-within : goal.fault_at-requires-clause-within
+fault_at-requires-clause-within c = within _ _ (some_left _ _ c.in-Ok.code _ c.in-Ok.ensures c.is_empty.ensures c.if-is_empty.false)
+
+pub fault_at-requires-in-Err-Wrong-clause-within :
+    goal.fault_at-requires-in-Err-Wrong-clause-within
+fault_at-requires-in-Err-Wrong-clause-within c = within _ _ (stopped c.in-Err-Wrong.field-0 _ _ c.in-Err-Wrong.field-0-is c.in-Err-Wrong.ensures)
+
+pub returns-in-Ok-clause-in_range : goal.returns-in-Ok-clause-in_range
+returns-in-Ok-clause-in_range c =
+    (read_image _ _ (λ i. omega (arith, c.type_inv.bytes i)) (all_read _ _ c.in-Ok.code _ c.in-Ok.ensures c.is_empty.ensures c.if-is_empty.true)).0
+
+pub returns-in-Ok-clause-found : goal.returns-in-Ok-clause-found
+returns-in-Ok-clause-found c =
+    (read_image _ _ (λ i. omega (arith, c.type_inv.bytes i)) (all_read _ _ c.in-Ok.code _ c.in-Ok.ensures c.is_empty.ensures c.if-is_empty.true)).1
+
+pub returns-in-Ok-clause-only : goal.returns-in-Ok-clause-only
+returns-in-Ok-clause-only c = λ code in_range is.
+    only_code c.in-Ok.code code _ (all_read _ _ c.in-Ok.code _ c.in-Ok.ensures c.is_empty.ensures c.if-is_empty.true) in_range is
+
+pub returns-in-Ok-2-clause-only : goal.returns-in-Ok-2-clause-only
+returns-in-Ok-2-clause-only c = λ code in_range is.
+    absurd (no_image_stops _ _ code (some_left _ _ c.in-Ok.code _ c.in-Ok.ensures c.is_empty.ensures c.if-is_empty.false) in_range is)
+
+pub returns-in-Ok-2-clause-fault : goal.returns-in-Ok-2-clause-fault
+returns-in-Ok-2-clause-fault c =
+    rw (c.fault_at.ensures) (fault_at_stop _ _ (some_left _ _ c.in-Ok.code _ c.in-Ok.ensures c.is_empty.ensures c.if-is_empty.false))
+
+pub returns-in-Err-Wrong-clause-only : goal.returns-in-Err-Wrong-clause-only
+returns-in-Err-Wrong-clause-only c = λ code in_range is. absurd (no_image_stops _ _ code (stopped c.in-Err-Wrong.field-0 _ _ c.in-Err-Wrong.field-0-is c.in-Err-Wrong.ensures) in_range is)
+
+pub returns-in-Err-Wrong-clause-fault : goal.returns-in-Err-Wrong-clause-fault
+returns-in-Err-Wrong-clause-fault c = rw (c.fault_at-in-Err-Wrong.ensures) (fault_at_stop _ _ (stopped c.in-Err-Wrong.field-0 _ _ c.in-Err-Wrong.field-0-is c.in-Err-Wrong.ensures))

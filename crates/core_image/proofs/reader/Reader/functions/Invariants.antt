@@ -1,0 +1,11 @@
+use Rattle.std.proofs.Common.{◌≡◌, ◌-◌, ◌≤◌}
+use Rattle.core_image.specs.Reading.{functions_at}
+use Rattle.core_image.proofs.Loop.{with_front}
+use Rattle.core_image.proofs.reader.Reader.functions.Given as goal
+
+-- what was read so far and what is left to read are all
+abbrev pub invariant-loop : goal.invariant-loop
+invariant-loop l = record {
+  told : with_front l.functions.items (functions_at (l.count - l.counter) l.least l.most l.lines l.self.rest.now) ≡ functions_at l.fn.count 0 0 l.fn.lines l.fn.self.rest.now;
+  most : l.most ≤ l.lines - 1;
+}

@@ -1,0 +1,10 @@
+pub mod Accepted
+pub mod AcceptedTests
+pub mod Answers
+pub mod Fields
+pub mod Operands
+pub mod Parts
+pub mod Ranges
+pub mod Reading
+pub mod Spelling
+pub mod Table
