@@ -1,0 +1,12 @@
+mod Lists
+pub mod Scripts
+mod Growing
+mod Resets
+pub mod Each
+pub mod Seen
+mod Steps
+pub mod Standing
+mod Made
+mod Examples
+pub mod Undecided
+pub mod Waiting

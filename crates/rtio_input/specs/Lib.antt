@@ -1,0 +1,4 @@
+pub mod Script
+pub mod Channel
+pub mod Past
+pub mod Calls

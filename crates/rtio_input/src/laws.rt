@@ -1,0 +1,26 @@
+//! What holds of every past of the inputs.
+
+ghost use Rattle.std.specs.Prelude.{◌≡◌, ◌≤◌, ◌+◌, ◌++◌, ℕ, ℤ, List, None, true};
+ghost use Rattle.rtio_types.specs.declared.event.Edge.{Edge};
+ghost use Rattle.rtio_types.specs.declared.event.Event.{Event};
+ghost use Rattle.rtio_input.specs.Script.{are_edges_ok};
+ghost use Rattle.rtio_input.specs.Channel.{InputsState, edge_reply};
+ghost use Rattle.rtio_input.specs.Past.{InputStep, StandFor, are_made_by, are_put_out_by, unread_at};
+ghost use Rattle.rtio_input.specs.Calls.{are_of_cycle, passed};
+
+/// What is decided stays decided while nothing is asked: a request for an edge that isn't decided at the next counter
+/// isn't decided at this one.
+pub fn a_decided_edge_stays_decided()
+    ensures { (script : List Edge) (outputs kept : List Event) (steps : List InputStep) (counter channel : ℕ) (up_to : ℤ) →
+        are_edges_ok script ≡ true → are_put_out_by counter outputs ≡ true → are_made_by counter steps ≡ true →
+        are_of_cycle (counter + 1) kept ≡ true →
+        edge_reply (unread_at script (outputs ++ kept) steps (counter + 1) channel) (counter + 1) up_to ≡ None →
+        edge_reply (unread_at script outputs steps counter channel) counter up_to ≡ None }
+{}
+
+/// Between edges a counter changes nothing: inputs with no edge to come up to a later counter stand there for the same
+/// past.
+pub fn no_edge_no_change()
+    ensures { (s : InputsState) (script : List Edge) (outputs : List Event) (steps : List InputStep) (from to : ℕ) →
+        from ≤ to → passed to s ≡ true → StandFor s script outputs steps from → StandFor s script outputs steps to }
+{}
