@@ -1,11 +1,14 @@
 -- What is answered to a text, by its tokens, its tree and the tree's form.
 use Rattle.std.proofs.Common.{◌≡◌, ℕ, ◌<◌, ◌≤◌, List, [], ◌∷◌, length, take, drop, Bool, true, false, refl, sym, ap, subst, ◌∙◌, arith, Some, None, nat_lt, get_or}
-use Rattle.std.specs.Prelude.{suc, Ok, Err, Result, IfOk, slice_get, is_some, if◌then◌else◌}
+use Rattle.std.specs.Prelude.{ℤ, suc, Ok, Err, Result, IfOk, slice_get}
 use Rattle.std.specs.declared.option.Option.{Option}
 use Rattle.std.proofs.lemmas.List.{length-map, take-append-drop, take_all}
 use Rattle.std.proofs.lemmas.Option.{slice_get_read}
 use Rattle.kern_lexer.specs.Symbols.{lexeme_of}
-use Rattle.rtio_types.specs.declared.outcome.Exc.{Exc}
+use Rattle.artiq_sim.specs.declared.finish.Finish.{Finish}
+use Rattle.rtio_types.specs.declared.outcome.Outcome.{Outcome}
+use Rattle.rtio_core.specs.Core.{CoreState}
+use Rattle.artiq_sim.specs.Runs.{IsRun}
 use Rattle.kern_lexer.specs.Answers.{HasTokens, HasFault, IsEndOf}
 use Rattle.kern_lexer.specs.declared.fault.LexEnd.{LexEnd}
 use Rattle.kern_lexer.specs.declared.fault.LexEnd.TheVariants as L
@@ -32,10 +35,10 @@ use Rattle.kern_types.specs.Answers as TypeAnswers
 use Rattle.kern_types.specs.Programs.{IsTyped, program_verdict}
 use Rattle.kern_types.specs.Verdicts as V
 use Rattle.artiq_sim.specs.Texts.{IsTextOf, IsKernel, IsTextFor, IsRefused, no_tokens, no_tree, not_typed, too_large, not_straight, lex_line, syntax_line}
-use Rattle.artiq_sim.specs.Forms.{IsStraight, IsProgramRefused, ill, large, wrong, IsProgramReport, IsProgramDue, IsAnswerToProgram}
+use Rattle.artiq_sim.specs.Forms.{IsStraight, IsProgramRefused, ill, large, wrong, IsProgramReport, IsProgramDue, IsAnswerToProgram, IsReportOf}
 use Rattle.artiq_sim.specs.Answers.{status_of, ReportsText, IsDue, IsAnswerTo}
 use Rattle.kern_lexer.proofs.Uniqueness.{one-list, not-both}
-use Rattle.artiq_sim.proofs.Plays.{count_of_steps}
+use Rattle.artiq_sim.proofs.Checking.{count_of_steps}
 use Rattle.artiq_sim.proofs.StraightTrees.{nodes_of_lines}
 
 -- a straight program has no more steps than nodes
@@ -46,6 +49,17 @@ few_steps program steps straight small =
     let lines = nodes_of_lines f.body in
     let count = count_of_steps f.body steps straight.has_steps.are in
     omega (arith, nodes, lines, count, small)
+
+-- the answer that reports a run
+report_answer : (program : ProgramTree) (core : CoreState) (how : Outcome) (cursor : ℤ) (answer : Answer) → IsKernel program → wrong_line program ≡ None → IsRun program core how cursor → IsReportOf core how cursor answer → IsAnswerToProgram Sim program answer
+report_answer program core how cursor (Due bytes finish) kernel straight is_run r =
+    record { kernel = kernel; straight = straight; core = core; how = how; cursor = cursor; is_run = is_run; report = r.0; finished = r.1 }
+report_answer program core how cursor (Refused told) kernel straight is_run r = absurd r
+
+pub report_answers : (program : ProgramTree) (core : CoreState) (how : Outcome) (cursor : ℤ) {E : Type 0} (result : Result Answer E) → IsKernel program → wrong_line program ≡ None → IsRun program core how cursor → IfOk result (λ answer. IsReportOf core how cursor answer)
+    → IfOk result (λ answer. IsAnswerToProgram Sim program answer)
+report_answers program core how cursor (Ok answer) kernel straight is_run r = report_answer program core how cursor answer kernel straight is_run r
+report_answers program core how cursor (Err e) kernel straight is_run r = tt
 
 -- ---- what a command takes
 
@@ -171,29 +185,27 @@ refused_text command text told tree is_text (ill line kind fault is) = not_typed
 refused_text command text told tree is_text (large typed big is) = too_large tree is_text typed big is
 refused_text command text told tree is_text (wrong is_sim kernel line first is) = not_straight is_sim tree is_text kernel line first is
 
-status_by : (raised : Option Exc) (b : Bool) → b ≡ is_some raised → (if b then 6 else 0) ≡ status_of raised
-status_by None b e = rw e refl
-status_by (Some x) b e = rw e refl
-
-reports : (text written : Bytes) (tree : ProgramTree) (b : Bool) → IsTextOf text tree → IsProgramReport tree written b → ReportsText text written (if b then 6 else 0)
-reports text written tree b is_text r = record {
+reports : (text written : Bytes) (tree : ProgramTree) (finish : Finish) → IsTextOf text tree → IsProgramReport tree written finish → ReportsText text written (status_of finish)
+reports text written tree finish is_text r = record {
   program = tree;
   straight = record { is_text = is_text; kernel = r.kernel; straight = r.straight };
-  run = r.run;
+  core = r.core;
+  how = r.how;
+  cursor = r.cursor;
   is_run = r.is_run;
   report = r.report;
-  status = status_by r.run.raised b r.raised;
+  status = ap status_of r.finished;
 }
 
 -- what is due to a program is due to its text
-due_of_program : (command : Command) (text written : Bytes) (tree : ProgramTree) (b : Bool) → IsTextOf text tree → IsProgramDue command tree written b → IsDue command text written (if b then 6 else 0)
+due_of_program : (command : Command) (text written : Bytes) (tree : ProgramTree) (b : Finish) → IsTextOf text tree → IsProgramDue command tree written b → IsDue command text written (status_of b)
 due_of_program Sim text written tree b is_text r = reports text written tree b is_text r
 due_of_program Check text written tree b is_text r = (
   record { program = tree; is_kernel = record { is_text = is_text; kernel = r.0 }; printed = r.1 },
-  rw r.2 refl,
+  ap status_of r.2,
 )
 
-due_for : (command : Command) (tree : ProgramTree) (written : Bytes) (b : Bool) → IsProgramDue command tree written b → IsProgramFor command tree
+due_for : (command : Command) (tree : ProgramTree) (written : Bytes) (b : Finish) → IsProgramDue command tree written b → IsProgramFor command tree
 due_for Sim tree written b r = (r.kernel, r.straight)
 due_for Check tree written b r = r.0
 

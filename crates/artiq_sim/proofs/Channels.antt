@@ -1,16 +1,16 @@
--- Facts of the sixteen channels that replace their outputs.
+-- Facts of the outputs and the raw outputs.
 use Rattle.std.proofs.Common.{◌≡◌, ℕ, ◌<◌, List, [], ◌∷◌, refl, sym, arith, IsTrue, Bool, true, false, Some, cond}
 use Rattle.std.specs.Prelude.{suc, zero, codes, bytes_eq}
 use Rattle.std.specs.List.{find, range_with_len}
 use Rattle.std.proofs.lemmas.Slice.Eq.{bytes_eq-Decides}
-use Rattle.rtio_types.specs.Board.{name_of_channel, channel_of_name}
+use Rattle.rtio_types.specs.Board.{name_of_channel, channel_of_name, kind_of_channel, has_address}
 use Rattle.kern_types.specs.Calls.{on, off, method_named}
 
 -- a fact of each of them
 abbrev pub AtEach : (ℕ → Type 0) → Type 0
-AtEach P = P 0 × P 1 × P 2 × P 3 × P 4 × P 5 × P 6 × P 7 × P 8 × P 9 × P 10 × P 11 × P 12 × P 13 × P 14 × P 15
+AtEach P = P 0 × P 1 × P 2 × P 3 × P 4 × P 5 × P 6 × P 7 × P 8 × P 9 × P 10 × P 11 × P 12 × P 13 × P 14 × P 15 × P 16 × P 17 × P 18 × P 19 × P 20 × P 21 × P 22 × P 23
 
-pub at_channel : (P : ℕ → Type 0) → AtEach P → (c : ℕ) → c < 16 → P c
+pub at_channel : (P : ℕ → Type 0) → AtEach P → (c : ℕ) → c < 24 → P c
 at_channel P each zero below = each.0
 at_channel P each (suc zero) below = each.1
 at_channel P each (suc (suc zero)) below = each.2
@@ -27,18 +27,30 @@ at_channel P each (suc (suc (suc (suc (suc (suc (suc (suc (suc (suc (suc (suc ze
 at_channel P each (suc (suc (suc (suc (suc (suc (suc (suc (suc (suc (suc (suc (suc zero))))))))))))) below = each.13
 at_channel P each (suc (suc (suc (suc (suc (suc (suc (suc (suc (suc (suc (suc (suc (suc zero)))))))))))))) below = each.14
 at_channel P each (suc (suc (suc (suc (suc (suc (suc (suc (suc (suc (suc (suc (suc (suc (suc zero))))))))))))))) below = each.15
-at_channel P each (suc (suc (suc (suc (suc (suc (suc (suc (suc (suc (suc (suc (suc (suc (suc (suc c)))))))))))))))) below = absurd (omega (arith, below))
+at_channel P each (suc (suc (suc (suc (suc (suc (suc (suc (suc (suc (suc (suc (suc (suc (suc (suc zero)))))))))))))))) below = each.16
+at_channel P each (suc (suc (suc (suc (suc (suc (suc (suc (suc (suc (suc (suc (suc (suc (suc (suc (suc zero))))))))))))))))) below = each.17
+at_channel P each (suc (suc (suc (suc (suc (suc (suc (suc (suc (suc (suc (suc (suc (suc (suc (suc (suc (suc zero)))))))))))))))))) below = each.18
+at_channel P each (suc (suc (suc (suc (suc (suc (suc (suc (suc (suc (suc (suc (suc (suc (suc (suc (suc (suc (suc zero))))))))))))))))))) below = each.19
+at_channel P each (suc (suc (suc (suc (suc (suc (suc (suc (suc (suc (suc (suc (suc (suc (suc (suc (suc (suc (suc (suc zero)))))))))))))))))))) below = each.20
+at_channel P each (suc (suc (suc (suc (suc (suc (suc (suc (suc (suc (suc (suc (suc (suc (suc (suc (suc (suc (suc (suc (suc zero))))))))))))))))))))) below = each.21
+at_channel P each (suc (suc (suc (suc (suc (suc (suc (suc (suc (suc (suc (suc (suc (suc (suc (suc (suc (suc (suc (suc (suc (suc zero)))))))))))))))))))))) below = each.22
+at_channel P each (suc (suc (suc (suc (suc (suc (suc (suc (suc (suc (suc (suc (suc (suc (suc (suc (suc (suc (suc (suc (suc (suc (suc zero))))))))))))))))))))))) below = each.23
+at_channel P each (suc (suc (suc (suc (suc (suc (suc (suc (suc (suc (suc (suc (suc (suc (suc (suc (suc (suc (suc (suc (suc (suc (suc (suc c)))))))))))))))))))))))) below = absurd (omega (arith, below))
 
 -- a name is that of its channel
-pub channel_of_its_name : (c : ℕ) → c < 16 → channel_of_name (name_of_channel c) ≡ Some c
-channel_of_its_name = at_channel (λ c. channel_of_name (name_of_channel c) ≡ Some c) (refl, refl, refl, refl, refl, refl, refl, refl, refl, refl, refl, refl, refl, refl, refl, refl)
+pub channel_of_its_name : (c : ℕ) → c < 24 → channel_of_name (name_of_channel c) ≡ Some c
+channel_of_its_name = at_channel (λ c. channel_of_name (name_of_channel c) ≡ Some c) (refl, refl, refl, refl, refl, refl, refl, refl, refl, refl, refl, refl, refl, refl, refl, refl, refl, refl, refl, refl, refl, refl, refl, refl)
 
 -- its methods
-pub on_of_name : (c : ℕ) → c < 16 → method_named (name_of_channel c) (codes "on") ≡ Some (on c)
-on_of_name = at_channel (λ c. method_named (name_of_channel c) (codes "on") ≡ Some (on c)) (refl, refl, refl, refl, refl, refl, refl, refl, refl, refl, refl, refl, refl, refl, refl, refl)
+pub on_of_name : (c : ℕ) → c < 24 → method_named (name_of_channel c) (codes "on") ≡ Some (on c)
+on_of_name = at_channel (λ c. method_named (name_of_channel c) (codes "on") ≡ Some (on c)) (refl, refl, refl, refl, refl, refl, refl, refl, refl, refl, refl, refl, refl, refl, refl, refl, refl, refl, refl, refl, refl, refl, refl, refl)
 
-pub off_of_name : (c : ℕ) → c < 16 → method_named (name_of_channel c) (codes "off") ≡ Some (off c)
-off_of_name = at_channel (λ c. method_named (name_of_channel c) (codes "off") ≡ Some (off c)) (refl, refl, refl, refl, refl, refl, refl, refl, refl, refl, refl, refl, refl, refl, refl, refl)
+pub off_of_name : (c : ℕ) → c < 24 → method_named (name_of_channel c) (codes "off") ≡ Some (off c)
+off_of_name = at_channel (λ c. method_named (name_of_channel c) (codes "off") ≡ Some (off c)) (refl, refl, refl, refl, refl, refl, refl, refl, refl, refl, refl, refl, refl, refl, refl, refl, refl, refl, refl, refl, refl, refl, refl, refl)
+
+-- each has the address 0
+pub has_address_0 : (c : ℕ) → c < 24 → has_address (kind_of_channel c) 0 ≡ true
+has_address_0 = at_channel (λ c. has_address (kind_of_channel c) 0 ≡ true) (refl, refl, refl, refl, refl, refl, refl, refl, refl, refl, refl, refl, refl, refl, refl, refl, refl, refl, refl, refl, refl, refl, refl, refl)
 
 -- what is found passes
 found_passes_by : (p : ℕ → Bool) (x : ℕ) (xs : List ℕ) (c : ℕ) (b : Bool) → p x ≡ b → (find p xs ≡ Some c → IsTrue (p c)) → cond b (Some x) (find p xs) ≡ Some c → IsTrue (p c)

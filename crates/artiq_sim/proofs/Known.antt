@@ -1,6 +1,6 @@
 -- What a told source gave is determined by what it held before and after.
 use Rattle.std.proofs.Common.{inl, inr, ◌⊎◌, ◌≡◌, ℕ, ◌+◌, List, [], ◌++◌, refl, sym, ◌∙◌, ap, subst, length, length-append, append-nil, arith}
-use Rattle.std.specs.Prelude.{if◌then◌else◌, suc, Some, None, IsSome, ◌≤◌, Vec, Bool}
+use Rattle.std.specs.Prelude.{suc, Some, None, IsSome, ◌≤◌, Vec}
 use Rattle.std.specs.declared.alloc.Global.{Global}
 use Rattle.lab_io.specs.declared.source.ReadEnd.{ReadEnd}
 use Rattle.lab_io.specs.declared.source.ReadEnd.TheVariants as End
@@ -9,7 +9,9 @@ use Rattle.artiq_sim.specs.declared.answer.Answer.{Answer}
 use Rattle.artiq_sim.specs.declared.answer.Answer.TheVariants.{Due, Refused}
 use Rattle.artiq_sim.specs.declared.command.Command.{Command}
 use Rattle.artiq_sim.specs.declared.command.Command.TheVariants.{Sim, Check}
-use Rattle.rtio_types.specs.declared.outcome.Exc.{Exc}
+use Rattle.artiq_sim.specs.declared.finish.Finish.{Finish}
+use Rattle.artiq_sim.specs.declared.finish.Finish.TheVariants.{Whole, Raised, Unfinished}
+use Rattle.artiq_sim.specs.Forms.{finish_at}
 use Rattle.std.specs.declared.option.Option.{Option}
 use Rattle.std.specs.Io.KnownBytes.{Consumes, IsAtEnd}
 use Rattle.artiq_sim.specs.Answers.{max_bytes, status_of, TakesTooMany, IsAnswerTo, IsDue, IsEnd}
@@ -75,25 +77,27 @@ pub refused_answer : (command : Command) (t items : List ℕ) (a : Answer) (line
 refused_answer command t items a line e f h = subst (λ x. IsAnswerTo command items x) f (subst (λ x. IsAnswerTo command x a) e h)
 
 -- the answer that has what is due
-pub due_answer : (command : Command) (t items : List ℕ) (a : Answer) (bytes : Vec ℕ Global) (raised : Bool) → t ≡ items → a ≡ Due bytes raised → IsAnswerTo command t a
-    → IsDue command items bytes.items (if raised then 6 else 0) × ((told : List ℕ) → IsRefused command items told → ⊥)
-due_answer command t items a bytes raised e f h = subst (λ x. IsAnswerTo command items x) f (subst (λ x. IsAnswerTo command x a) e h)
+pub due_answer : (command : Command) (t items : List ℕ) (a : Answer) (bytes : Vec ℕ Global) (finish : Finish) → t ≡ items → a ≡ Due bytes finish → IsAnswerTo command t a
+    → IsDue command items bytes.items (status_of finish) × ((told : List ℕ) → IsRefused command items told → ⊥)
+due_answer command t items a bytes finish e f h = subst (λ x. IsAnswerTo command items x) f (subst (λ x. IsAnswerTo command x a) e h)
 
--- the status of a run is one of two
-ends_run : (raised : Option Exc) (status : ℕ) → status ≡ status_of raised → (status ≡ 0) ⊎ (status ≡ 6)
-ends_run None status is = inl is
-ends_run (Some x) status is = inr is
+-- the status of a run is one of three
+ends_run : (finish : Finish) (status : ℕ) → status ≡ status_of finish → IsEnd Sim status
+ends_run Whole status is = inl is
+ends_run Raised status is = inr (inl is)
+ends_run Unfinished status is = inr (inr is)
 
 -- what is due comes with a status of the command
 pub due_ends : (command : Command) (text written : List ℕ) (status : ℕ) → IsDue command text written status → IsEnd command status
-due_ends Sim text written status due = ends_run due.run.raised status due.status
+due_ends Sim text written status due = ends_run (finish_at due.core due.how) status due.status
 due_ends Check text written status due = due.1
 
 -- an answer that isn't 4 is the status
-pub not_four : (result status : ℕ) → (result ≡ status) ⊎ (result ≡ 4) → (result ≡ 0) ⊎ (result ≡ 6) → result ≡ status
+pub not_four : (result status : ℕ) → (result ≡ status) ⊎ (result ≡ 4) → (result ≡ 0) ⊎ ((result ≡ 6) ⊎ (result ≡ 7)) → result ≡ status
 not_four result status (inl e) good = e
 not_four result status (inr four) (inl zero_status) = absurd (omega (arith, four, zero_status))
-not_four result status (inr four) (inr six) = absurd (omega (arith, four, six))
+not_four result status (inr four) (inr (inl six)) = absurd (omega (arith, four, six))
+not_four result status (inr four) (inr (inr seven)) = absurd (omega (arith, four, seven))
 
 -- the command that was asked is one
 pub same_command : (asked : Option Command) (command other : Command) → asked ≡ Some command → asked ≡ Some other → command ≡ other

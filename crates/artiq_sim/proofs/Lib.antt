@@ -1,8 +1,9 @@
 mod Channels
-pub mod Playing
 mod Meant
-mod Plays
-mod RunLoop
+mod AtTop
+mod Sessions
+mod Reports
+mod Held
 mod StraightTrees
 mod Checking
 mod Answering

@@ -1,7 +1,7 @@
 -- Which trees are straight, by their parts.
-use Rattle.std.proofs.Common.{rules, ◌≡◌, ◌≢◌, ℕ, ◌+◌, ◌<◌, ◌≤◌, List, [], ◌∷◌, length, drop, get_or, Bool, true, false, refl, sym, ap, ◌∙◌, arith, Some, nat_lt}
-use Rattle.std.proofs.lemmas.List.Sums.{sum_by-cons}
-use Rattle.std.specs.Prelude.{map, codes, ◌&&◌, ◌||◌, bytes_eq}
+use Rattle.std.proofs.Common.{rules, ◌≡◌, ◌≢◌, ℕ, ◌+◌, ◌<◌, ◌≤◌, List, [], ◌∷◌, length, drop, get_or, Bool, true, false, refl, sym, ap, ◌∙◌, arith, Some, nat_lt, add-one}
+use Rattle.std.proofs.Math.Seq.{drop-cons}
+use Rattle.std.specs.Prelude.{suc, codes, ◌&&◌, ◌||◌, bytes_eq}
 use Rattle.std.proofs.lemmas.Bool.Decides.{nat_tests}
 use Rattle.std.proofs.lemmas.Slice.Eq.{bytes_eq-Decides}
 use Rattle.rtio_types.specs.Board.{name_of_channel, channel_of_name}
@@ -9,14 +9,16 @@ use Rattle.kern_syntax.specs.declared.expression.Argument.{Argument}
 use Rattle.kern_syntax.specs.declared.expression.Argument.TheFolds.{the_lemmas}
 use Rattle.kern_syntax.specs.declared.statement.Stmt.{Stmt}
 use Rattle.kern_syntax.specs.declared.statement.StmtKind.TheFolds as statements
-use Rattle.kern_syntax.specs.declared.program.Function.{Function}
-use Rattle.kern_syntax.specs.Nodes.{statement_nodes, block_nodes, program_nodes}
+use Rattle.kern_syntax.specs.Nodes.{statement_nodes, block_nodes}
 use Rattle.artiq_sim.specs.Main.{statement_count}
-use Rattle.kern_syntax.specs.Tree.{FunctionTree, Statement, pass, break, continue, return, evaluate, assign, assign_element, augment, augment_element, assign_repeated, assign_list, if_then, while_do, for_range, parallel, sequential, record_as, try_do, Block, done, line_then, Bytes, Expression, Arguments, no_more, value_then, text_then, call, method}
-use Rattle.kern_syntax.specs.TreeOf.{argument_of, arguments_of, line_of, lines_of, statement_of, block_of, function_of, tree_of}
-use Rattle.artiq_sim.specs.Straight.{is_amount, is_ttl, is_straight_call}
+use Rattle.kern_syntax.specs.Tree.{Statement, pass, break, continue, return, evaluate, assign, assign_element, augment, augment_element, assign_repeated, assign_list, if_then, while_do, for_range, parallel, sequential, record_as, try_do, Block, done, line_then, Bytes, Expression, Arguments, no_more, value_then, text_then, call, method}
+use Rattle.kern_syntax.specs.TreeOf.{argument_of, arguments_of, line_of, lines_of, statement_of}
+use Rattle.artiq_sim.specs.Straight.{is_amount, is_output_channel, is_straight_call}
 use Rattle.artiq_sim.proofs.Channels.{name_of_found}
-use Rattle.artiq_sim.proofs.RunLoop.{drop_at}
+
+-- the list from a place on begins with its item
+pub drop_at : {A : Type 0} (xs : List A) (i : ℕ) (x : A) → i < length xs → x ≡ get_or xs i x → drop i xs ≡ x ∷ drop (i + 1) xs
+drop_at xs i x below is = rw (add-one, drop-cons xs i x) (ap (λ y. y ∷ drop (suc i) xs) (sym is))
 
 -- what follows the first argument
 abbrev tail_of : Arguments → Arguments
@@ -60,10 +62,10 @@ with_arguments object name [] some = absurd (some refl)
 with_arguments object name (a ∷ args) some = with_more object name (arguments_of (a ∷ args)) (is_more-argument a (arguments_of args))
 
 -- a method of another object
-pub no_ttl : (object name : Bytes) (args : Arguments) → is_ttl (channel_of_name object) ≡ false → is_straight_call (method object name args) ≡ false
-no_ttl object name no_more e = rw e refl
-no_ttl object name (value_then a rest) e = refl
-no_ttl object name (text_then text rest) e = refl
+pub no_output_channel : (object name : Bytes) (args : Arguments) → is_output_channel (channel_of_name object) ≡ false → is_straight_call (method object name args) ≡ false
+no_output_channel object name no_more e = rw e refl
+no_output_channel object name (value_then a rest) e = refl
+no_output_channel object name (text_then text rest) e = refl
 
 -- no argument
 pub none_of : (args : List Argument) → length args ≡ 0 → arguments_of args ≡ no_more
@@ -73,20 +75,20 @@ none_of (a ∷ args) none = absurd (omega (arith, none))
 same_word : (name word : Bytes) → bytes_eq name word ≡ true → name ≡ word
 same_word name word e = (bytes_eq-Decides name word).0 e
 
-pub on_call : (object name : Bytes) (args : Arguments) (number : ℕ) → args ≡ no_more → is_ttl (channel_of_name object) ≡ true → object ≡ name_of_channel number → bytes_eq name (codes "on") ≡ true
+pub on_call : (object name : Bytes) (args : Arguments) (number : ℕ) → args ≡ no_more → is_output_channel (channel_of_name object) ≡ true → object ≡ name_of_channel number → bytes_eq name (codes "on") ≡ true
     → (is_straight_call (method object name args) ≡ true) × (method object name args ≡ method (name_of_channel number) (codes "on") no_more)
-on_call object name args number none ttl named e = (
-  rw none (rw (ttl, e) refl),
+on_call object name args number none known named e = (
+  rw none (rw (known, e) refl),
   ap (λ x. method object name x) none ∙ ap (λ x. method x name no_more) named ∙ ap (λ x. method (name_of_channel number) x no_more) (same_word name (codes "on") e),
 )
 
 off_by : (a b c : Bool) → a ≡ true → c ≡ true → (a && (b || c)) ≡ true
 off_by a b c e f = grind arith
 
-pub off_call : (object name : Bytes) (args : Arguments) (number : ℕ) → args ≡ no_more → is_ttl (channel_of_name object) ≡ true → object ≡ name_of_channel number → bytes_eq name (codes "off") ≡ true
+pub off_call : (object name : Bytes) (args : Arguments) (number : ℕ) → args ≡ no_more → is_output_channel (channel_of_name object) ≡ true → object ≡ name_of_channel number → bytes_eq name (codes "off") ≡ true
     → (is_straight_call (method object name args) ≡ true) × (method object name args ≡ method (name_of_channel number) (codes "off") no_more)
-off_call object name args number none ttl named e = (
-  rw none (off_by (is_ttl (channel_of_name object)) (bytes_eq name (codes "on")) (bytes_eq name (codes "off")) ttl e),
+off_call object name args number none known named e = (
+  rw none (off_by (is_output_channel (channel_of_name object)) (bytes_eq name (codes "on")) (bytes_eq name (codes "off")) known e),
   ap (λ x. method object name x) none ∙ ap (λ x. method x name no_more) named ∙ ap (λ x. method (name_of_channel number) x no_more) (same_word name (codes "off") e),
 )
 
@@ -95,7 +97,7 @@ neither a b c e f = grind arith
 
 -- another method
 pub other_method : (object name : Bytes) (args : Arguments) → bytes_eq name (codes "on") ≡ false → bytes_eq name (codes "off") ≡ false → is_straight_call (method object name args) ≡ false
-other_method object name no_more no_on no_off = neither (is_ttl (channel_of_name object)) (bytes_eq name (codes "on")) (bytes_eq name (codes "off")) no_on no_off
+other_method object name no_more no_on no_off = neither (is_output_channel (channel_of_name object)) (bytes_eq name (codes "on")) (bytes_eq name (codes "off")) no_on no_off
 other_method object name (value_then a rest) no_on no_off = refl
 other_method object name (text_then text rest) no_on no_off = refl
 
@@ -147,9 +149,9 @@ other_function function args e one no_at no_delay =
 -- ---- channels
 
 -- a channel's name
-pub ttl_named : (name : Bytes) (number : ℕ) → Some number ≡ channel_of_name name → number < 16 → (is_ttl (channel_of_name name) ≡ true) × (name ≡ name_of_channel number)
-ttl_named name number found below =
-    let lt : nat_lt number 16 ≡ true = grind (arith, nat_tests) in
+pub channel_named : (name : Bytes) (number : ℕ) → Some number ≡ channel_of_name name → number < 24 → (is_output_channel (channel_of_name name) ≡ true) × (name ≡ name_of_channel number)
+channel_named name number found below =
+    let lt : nat_lt number 24 ≡ true = grind (arith, nat_tests) in
     (rw (← found) lt, sym (name_of_found name number found))
 
 -- ---- statements
@@ -191,13 +193,3 @@ nodes_of_lines (line_then line statement body) =
     let rest = nodes_of_lines body in
     let one = nodes_of_statement statement in
     omega (arith, rest, one)
-
--- the body of the first function is no larger than the program
-pub small_body : (functions : List Function) (f : Function) → 1 ≤ length functions → f ≡ get_or functions 0 f → program_nodes (tree_of functions) ≤ 16384 → statement_count (block_of f.body) ≤ 16384
-small_body [] f some is few = absurd (omega (arith, some))
-small_body (g ∷ functions) f some is few =
-    let first : 1 + block_nodes (block_of g.body) ≤ program_nodes (tree_of (g ∷ functions)) =
-    omega (arith, sum_by-cons (λ (h : FunctionTree). 1 + block_nodes h.body) (function_of g) (map function_of functions))
-    in
-    let same : statement_count (block_of f.body) ≡ statement_count (block_of g.body) = ap (λ (h : Function). statement_count (block_of h.body)) is in
-    omega (arith, nodes_of_lines (block_of g.body), first, same, few)

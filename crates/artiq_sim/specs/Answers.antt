@@ -1,14 +1,18 @@
 -- What the program answers and writes, and why.
-use Rattle.std.specs.Prelude.{if◌then◌else◌, ◌≡◌, ℕ, ◌+◌, ◌≤◌, ◌<◌, List, length, take, Bool, Option, Some, None, IsSome, codes, nat_le, ◌||◌, ◌==◌, ◌⊎◌}
+use Rattle.std.specs.Prelude.{◌≡◌, ℕ, ℤ, ◌+◌, ◌≤◌, ◌<◌, List, length, take, Bool, Option, Some, None, IsSome, codes, nat_le, ◌⊎◌}
 use Rattle.std.specs.Io.KnownBytes.{Consumes, IsAtEnd, Appends}
 use Rattle.lab_io.specs.Causes.{Rose}
-use Rattle.rtio_types.specs.declared.outcome.Exc.{Exc}
+use Rattle.rtio_types.specs.declared.outcome.Outcome.{Outcome}
+use Rattle.rtio_core.specs.Core.{CoreState}
 use Rattle.kern_syntax.specs.Tree.{ProgramTree}
 use Rattle.kern_syntax.specs.Print.{program_text}
 use Rattle.artiq_sim.specs.declared.command.Command.{Command}
 use Rattle.artiq_sim.specs.declared.command.Command.TheVariants.{Sim, Check}
 use Rattle.artiq_sim.specs.Texts.{IsKernelText, IsStraightText, IsTextFor, IsRefused}
-use Rattle.artiq_sim.specs.Runs.{Run, IsRun}
+use Rattle.artiq_sim.specs.Runs.{IsRun}
+use Rattle.artiq_sim.specs.declared.finish.Finish.{Finish}
+use Rattle.artiq_sim.specs.declared.finish.Finish.TheVariants.{Whole, Raised, Unfinished}
+use Rattle.artiq_sim.specs.Forms.{finish_at}
 use Rattle.artiq_sim.specs.Report.{report_text}
 use Rattle.artiq_sim.specs.declared.answer.Answer.{Answer}
 use Rattle.artiq_sim.specs.declared.answer.Answer.TheVariants.{Due, Refused}
@@ -23,19 +27,23 @@ pub record ReadsWhole (old new : Option (List ℕ)) (text : List ℕ) : Type 0 w
   pub at_end : IsAtEnd new
   pub within : length text ≤ max_bytes
 
--- the status of a run
-abbrev pub status_of : Option Exc → ℕ
-status_of None = 0
-status_of (Some x) = 6
+-- the status of a run by how it is finished: 7 where the outcome is that the units were used up or that the last cycle was
+-- reached, or where the kernel returned and an event is still to be put out
+abbrev pub status_of : Finish → ℕ
+status_of Whole = 0
+status_of Raised = 6
+status_of Unfinished = 7
 
 -- the bytes and the status that report a run of the text
 pub record ReportsText (text written : List ℕ) (answered : ℕ) : Type 0 where
   pub program : ProgramTree
   pub straight : IsStraightText text program
-  pub run : Run
-  pub is_run : IsRun program run
-  pub report : written ≡ report_text run
-  pub status : answered ≡ status_of run.raised
+  pub core : CoreState
+  pub how : Outcome
+  pub cursor : ℤ
+  pub is_run : IsRun program core how cursor
+  pub report : written ≡ report_text core how cursor
+  pub status : answered ≡ status_of (finish_at core how)
 
 -- the bytes are the canonical text of the program that the text has
 pub record PrintsText (text written : List ℕ) : Type 0 where
@@ -50,7 +58,7 @@ IsDue Check text written status = PrintsText text written × (status ≡ 0)
 
 -- the statuses of a command that nothing stops
 abbrev pub IsEnd : Command → (status : ℕ) → Type 0
-IsEnd Sim status = (status ≡ 0) ⊎ (status ≡ 6)
+IsEnd Sim status = (status ≡ 0) ⊎ ((status ≡ 6) ⊎ (status ≡ 7))
 IsEnd Check status = status ≡ 0
 
 -- the source was read to its end, and what is held has grown by what the command that was asked owes its text
@@ -134,14 +142,14 @@ pub record ErrFails (asked : Option Command) (old new : Option (List ℕ)) (befo
 
 -- an answer is what a command owes a text that it doesn't refuse, or the line that refuses one that it doesn't take
 abbrev pub IsAnswerTo : Command → List ℕ → Answer → Type 0
-IsAnswerTo command text (Due bytes has_raised) =
-    IsDue command text bytes.items (if has_raised then 6 else 0) × ((told : List ℕ) → IsRefused command text told → ⊥)
+IsAnswerTo command text (Due bytes finish) =
+    IsDue command text bytes.items (status_of finish) × ((told : List ℕ) → IsRefused command text told → ⊥)
 IsAnswerTo command text (Refused told) =
     IsRefused command text told.items × ((program : ProgramTree) → IsTextFor command text program → ⊥)
 
 -- the statuses that there are
 abbrev pub is_status : ℕ → Bool
-is_status status = nat_le status 6 || (status == 8)
+is_status status = nat_le status 8
 
 -- no fault of the source and of the sinks came: none of the counts has risen
 pub record NoFaultCame (source_old source_new out_old out_new err_old err_new : ℕ) : Type 0 where

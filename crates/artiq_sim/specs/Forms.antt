@@ -1,15 +1,19 @@
--- What a program is to `sim`, and the rule on the next output.
-use Rattle.std.specs.Prelude.{◌≡◌, ◌<◌, is_some, ℕ, List, [], ◌∷◌, Bool, true, false, ◌&&◌, pos, int_lt, int_le, IsTrue, Option, Some, None}
-use Rattle.rtio_types.specs.Time.{coarse_of}
+-- What a program is to `sim`, and what a command owes it.
+use Rattle.std.specs.Prelude.{◌≡◌, ◌<◌, ℕ, List, [], ◌∷◌, Option, Some, None, ℤ}
 use Rattle.rtio_types.specs.declared.event.Event.{Event}
-use Rattle.kern_syntax.specs.Tree.{Block, done, ProgramTree}
+use Rattle.rtio_types.specs.declared.outcome.Outcome.{Outcome}
+use Rattle.rtio_types.specs.declared.outcome.Outcome.TheVariants as outcome
+use Rattle.rtio_core.specs.Core.{CoreState}
+use Rattle.kern_syntax.specs.Tree.{Block, ProgramTree}
 use Rattle.artiq_sim.specs.declared.straight.Form.{Form}
 use Rattle.artiq_sim.specs.declared.straight.Form.TheVariants as F
 use Rattle.artiq_sim.specs.declared.step.Step.{Step}
 use Rattle.kern_syntax.specs.Nodes.{program_nodes, shown}
 use Rattle.artiq_sim.specs.declared.answer.Answer.{Answer}
 use Rattle.artiq_sim.specs.declared.answer.Answer.TheVariants.{Due, Refused}
-use Rattle.artiq_sim.specs.Report.{report_text}
+use Rattle.artiq_sim.specs.declared.finish.Finish.{Finish}
+use Rattle.artiq_sim.specs.declared.finish.Finish.TheVariants.{Whole, Raised, Unfinished}
+use Rattle.artiq_sim.specs.Report.{pending_at, report_text}
 use Rattle.kern_syntax.specs.Print.{program_text}
 use Rattle.kern_types.specs.declared.fault.TypeKind.{TypeKind}
 use Rattle.kern_types.specs.Programs.{IsTyped, program_verdict}
@@ -17,36 +21,14 @@ use Rattle.kern_types.specs.Verdicts as V
 use Rattle.artiq_sim.specs.declared.command.Command.{Command}
 use Rattle.artiq_sim.specs.declared.command.Command.TheVariants.{Sim, Check}
 use Rattle.artiq_sim.specs.Texts.{IsKernel, max_nodes, type_line, code_line, form_line}
-use Rattle.artiq_sim.specs.Runs.{cycles_rise, Run, IsRun}
-use Rattle.artiq_sim.specs.Steps.{AreSteps, HasSteps, outputs_from}
-use Rattle.artiq_sim.specs.Straight.{wrong_line, wrong_line_behind}
-
--- the last of some events
-abbrev pub last_of : List Event → Option Event
-last_of [] = None
-last_of (event ∷ []) = Some event
-last_of (event ∷ next ∷ events) = last_of (next ∷ events)
-
--- an event's cycle is greater than that of an earlier one
-abbrev pub is_after : Option Event → Event → Bool
-is_after None event = true
-is_after (Some last) event = int_lt (coarse_of last.stamp) (coarse_of event.stamp)
-
--- an output obeys the rule on cycles behind the last one
-abbrev pub may_follow : Option Event → Option Event → Bool
-may_follow last None = true
-may_follow last (Some event) = is_after last event && int_le (coarse_of event.stamp) (pos 134217728)
-
--- the last output after one more step
-abbrev pub latest : Option Event → Option Event → Option Event
-latest last None = last
-latest last (Some event) = Some event
+use Rattle.artiq_sim.specs.Runs.{IsRun}
+use Rattle.artiq_sim.specs.Steps.{AreSteps, HasSteps}
+use Rattle.artiq_sim.specs.Straight.{wrong_line, wrong_line_of}
 
 -- a straight program's steps
 pub record IsStraight (program : ProgramTree) (steps : List Step) : Type 0 where
   pub none_wrong : wrong_line program ≡ None
   pub has_steps : HasSteps program steps
-  pub rising : IsTrue (cycles_rise (outputs_from (pos 0) steps))
 
 -- a program has these steps, or is wrong at this line first
 abbrev pub IsFormOf : ProgramTree → Form → Type 0
@@ -55,14 +37,25 @@ IsFormOf program (F.Wrong line) = wrong_line program ≡ Some line
 
 -- a straight body's steps
 pub record IsStraightBody (body : Block) (steps : List Step) : Type 0 where
-  pub none_wrong : wrong_line_behind done body ≡ None
+  pub none_wrong : wrong_line_of body ≡ None
   pub are_steps : AreSteps body steps
-  pub rising : IsTrue (cycles_rise (outputs_from (pos 0) steps))
 
 -- the same of the body of a program's first function
 abbrev pub IsFormOfBody : Block → Form → Type 0
 IsFormOfBody body (F.Straight steps) = IsStraightBody body steps.items
-IsFormOfBody body (F.Wrong line) = wrong_line_behind done body ≡ Some line
+IsFormOfBody body (F.Wrong line) = wrong_line_of body ≡ Some line
+
+-- how a run is finished, by its outcome and the events that are still to be put out
+abbrev pub finish_of : Outcome → List Event → Finish
+finish_of outcome.Returned [] = Whole
+finish_of outcome.Returned (event ∷ events) = Unfinished
+finish_of (outcome.Raised x) pending = Raised
+finish_of outcome.Budget pending = Unfinished
+finish_of outcome.Horizon pending = Unfinished
+
+-- the finish of a core with this outcome
+abbrev pub finish_at : CoreState → Outcome → Finish
+finish_at core how = finish_of how (pending_at core.config core.history core.counter)
 
 -- why a command refuses a program, and the line that says so
 pub data IsProgramRefused (command : Command) (program : ProgramTree) (told : List ℕ) : Type 0 where
@@ -71,20 +64,27 @@ pub data IsProgramRefused (command : Command) (program : ProgramTree) (told : Li
   wrong : command ≡ Sim → IsKernel program → (line : ℕ) → wrong_line program ≡ Some line → told ≡ form_line line → IsProgramRefused command program told
 
 -- the report of a straight program's run
-pub record IsProgramReport (program : ProgramTree) (written : List ℕ) (has_raised : Bool) : Type 0 where
+pub record IsProgramReport (program : ProgramTree) (written : List ℕ) (finish : Finish) : Type 0 where
   pub kernel : IsKernel program
   pub straight : wrong_line program ≡ None
-  pub run : Run
-  pub is_run : IsRun program run
-  pub report : written ≡ report_text run
-  pub raised : has_raised ≡ is_some run.raised
+  pub core : CoreState
+  pub how : Outcome
+  pub cursor : ℤ
+  pub is_run : IsRun program core how cursor
+  pub report : written ≡ report_text core how cursor
+  pub finished : finish ≡ finish_at core how
 
 -- what a command owes a program
-abbrev pub IsProgramDue : Command → ProgramTree → List ℕ → Bool → Type 0
-IsProgramDue Sim program written has_raised = IsProgramReport program written has_raised
-IsProgramDue Check program written has_raised = IsKernel program × (written ≡ program_text program) × (has_raised ≡ false)
+abbrev pub IsProgramDue : Command → ProgramTree → List ℕ → Finish → Type 0
+IsProgramDue Sim program written finish = IsProgramReport program written finish
+IsProgramDue Check program written finish = IsKernel program × (written ≡ program_text program) × (finish ≡ Whole)
 
 -- the answer of a command to a program
 abbrev pub IsAnswerToProgram : Command → ProgramTree → Answer → Type 0
-IsAnswerToProgram command program (Due bytes has_raised) = IsProgramDue command program bytes.items has_raised
+IsAnswerToProgram command program (Due bytes finish) = IsProgramDue command program bytes.items finish
 IsAnswerToProgram command program (Refused told) = IsProgramRefused command program told.items
+
+-- an answer is the report of a core with this end, and tells how it was finished
+abbrev pub IsReportOf : CoreState → Outcome → ℤ → Answer → Type 0
+IsReportOf core how cursor (Due bytes finish) = (bytes.items ≡ report_text core how cursor) × (finish ≡ finish_at core how)
+IsReportOf core how cursor (Refused told) = ⊥

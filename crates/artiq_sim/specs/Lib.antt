@@ -2,8 +2,10 @@ pub mod Words
 pub mod Main
 pub mod Runs
 pub mod Steps
+pub mod Sessions
 pub mod Straight
 pub mod Texts
+pub mod Entries
 pub mod Report
 pub mod Forms
 pub mod Answers

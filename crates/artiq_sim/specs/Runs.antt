@@ -1,20 +1,20 @@
--- Runs of straight kernels: what the timeline asks, how it is answered, and what is put out.
-use Rattle.std.specs.Prelude.{◌≡◌, ℕ, List, [], ◌∷◌, ◌++◌, map, replicate, Bool, true, ◌&&◌, if◌then◌else◌, ℤ, pos, ◌*ℤ◌, int_lt, int_le, IsTrue, Option, Some, None, ⊤}
-use Rattle.std.specs.Int.{int_max}
-use Rattle.std.specs.List.{list_all}
-use Rattle.rtio_types.specs.Time.{coarse_of}
-use Rattle.rtio_types.specs.declared.event.Event.{Event}
-use Rattle.rtio_types.specs.declared.outcome.Exc.{Exc}
-use Rattle.rtio_types.specs.declared.outcome.Exc.TheVariants.{RTIOUnderflow}
+-- Runs of straight kernels on a core: what the timeline asks, what the core answers and when, and how the run ends.
+use Rattle.std.specs.Prelude.{◌≡◌, ℕ, List, [], ◌∷◌, ◌++◌, map, false, ℤ, pos, None, Some}
+use Rattle.rtio_types.specs.declared.outcome.Outcome.{Outcome}
+use Rattle.rtio_types.specs.declared.outcome.Outcome.TheVariants as outcome
 use Rattle.rtio_types.specs.declared.request.Request.{Request}
-use Rattle.rtio_types.specs.declared.request.Request.TheVariants as Q
 use Rattle.rtio_types.specs.declared.request.Reply.{Reply}
-use Rattle.rtio_types.specs.declared.request.Reply.TheVariants as R
-use Rattle.kern_syntax.specs.Tree.{Block, ProgramTree}
-use Rattle.timeline_sem.specs.declared.meant.MeantOutcome.{MeantOutcome}
+use Rattle.rtio_core.specs.declared.data.Config.{Config}
+use Rattle.rtio_core.specs.declared.data.StartOf.{StartOf}
+use Rattle.rtio_core.specs.declared.data.Act.{Act}
+use Rattle.rtio_core.specs.declared.data.Act.TheVariants.{Start, Asked, End}
+use Rattle.rtio_core.specs.declared.data.Entry.{Entry}
+use Rattle.rtio_core.specs.Reply.{is_decided}
+use Rattle.rtio_core.specs.Top.{top}
+use Rattle.rtio_core.specs.Core.{CoreState, IsCore}
+use Rattle.kern_syntax.specs.Tree.{ProgramTree}
 use Rattle.timeline_sem.specs.declared.meant.MeantOutcome.TheVariants as M
 use Rattle.timeline_sem.specs.Programs.{Meaning, meaning}
-use Rattle.artiq_sim.specs.Main.{main_of, statement_count}
 
 -- the units that a run has
 abbrev pub budget : ℕ
@@ -24,81 +24,79 @@ budget = 1000000
 abbrev pub meant : ProgramTree → List Reply → Meaning
 meant program replies = meaning program 0 [] (pos 0) budget replies
 
--- the events of the outputs among requests
-abbrev pub events_asked : List Request → List Event
-events_asked [] = []
-events_asked (Q.Out event ∷ rest) = event ∷ events_asked rest
-events_asked (request ∷ rest) = events_asked rest
+-- the settings of the core
+abbrev pub default_config : Config
+default_config = record { lanes = 8; depth = 128; cost = 0; horizon = 134217728; edges = [] }
 
--- the events of the outputs of `main` with this body, were each one accepted; a statement asks for one at most
-abbrev pub events_planned : Block → List Event
-events_planned body = events_asked (meant (main_of body) (replicate (statement_count body) R.Done)).requests
+-- what the session runs: function 0 of source 0, without arguments, for the first step of run 0
+abbrev pub start_of_main : StartOf
+start_of_main = record { source = 0; function = 0; args = []; rid = 0; pos = 0 }
 
--- each cycle is greater than the one before
-abbrev pub cycles_rise : List Event → Bool
-cycles_rise [] = true
-cycles_rise (event ∷ []) = true
-cycles_rise (event ∷ next ∷ rest) =
-    int_lt (coarse_of event.stamp) (coarse_of next.stamp) && cycles_rise (next ∷ rest)
+-- a request, its reply, and the counter at which it got it
+pub record Answered : Type 0 where
+  pub request : Request
+  pub reply : Reply
+  pub at : ℕ
 
--- no cycle is above 2 to the power of 27
-abbrev pub are_in_range : List Event → Bool
-are_in_range events = list_all (λ event. int_le (coarse_of event.stamp) (pos 134217728)) events
+abbrev pub requests_of : List Answered → List Request
+requests_of answered = map (λ (a : Answered). a.request) answered
 
--- the reply to an output while the counter stands at this cycle
-abbrev pub right_reply : ℤ → Event → Reply
-right_reply counter event = if int_lt counter (coarse_of event.stamp) then R.Done else R.Underflow
+abbrev pub replies_of : List Answered → List Reply
+replies_of answered = map (λ (a : Answered). a.reply) answered
 
--- each request is an output, and each one has its right reply
-abbrev pub AreRight : ℤ → List Request → List Reply → Type 0
-AreRight counter [] [] = ⊤
-AreRight counter (Q.Out event ∷ requests) (reply ∷ replies) =
-    (reply ≡ right_reply counter event) × AreRight counter requests replies
-AreRight counter _ _ = ⊥
+-- chair 0 is the only one
+abbrev pub entry_of : Act → Entry
+entry_of act = record { chair = 0; act = act }
 
--- the events that are put out: those of the outputs answered Done
-abbrev pub events_done : List Request → List Reply → List Event
-events_done (Q.Out event ∷ requests) (R.Done ∷ replies) = event ∷ events_done requests replies
-events_done (request ∷ requests) (reply ∷ replies) = events_done requests replies
-events_done _ _ = []
+-- the entry of an answered request
+abbrev pub asked_entry : Answered → Entry
+asked_entry a = entry_of (Asked a.request a.reply a.at)
 
--- the greatest cycle put out, 0 if there is none
-abbrev pub last_cycle : List Event → ℤ
-last_cycle [] = pos 0
-last_cycle (event ∷ rest) = int_max (coarse_of event.stamp) (last_cycle rest)
+-- one session that is open: it started at cursor 0 and counter 0, and these requests were answered
+abbrev pub open_history : List Answered → List Entry
+open_history answered = entry_of (Start start_of_main (pos 0) 0) ∷ map asked_entry answered
 
--- what a run leaves: the events put out, the exception that ended it, the cursor and the counter's reading
-pub record Run : Type 0 where
-  pub events : List Event
-  pub raised : Option Exc
-  pub cursor : ℤ
-  pub counter : ℤ
+-- the same with its end
+abbrev pub ended_history : List Answered → Outcome → ℤ → (at : ℕ) → List Entry
+ended_history answered how cursor at = open_history answered ++ entry_of (End how cursor at) ∷ []
 
--- the outcome of a run that an exception ended, or none
-abbrev pub outcome_of : Option Exc → MeantOutcome
-outcome_of None = M.Returned
-outcome_of (Some x) = M.Raised x
+-- what comes next stands at the greatest counter that it may have: a core is asked only where it has stopped
+abbrev pub IsAtTop : Config → List Entry → Act → Type 0
+IsAtTop config before (Start of cursor at) = at ≡ top config before None
+IsAtTop config before (Asked request reply at) = at ≡ top config before (Some request)
+IsAtTop config before (End outcome.Horizon cursor at) = at ≡ config.horizon
+IsAtTop config before (End how cursor at) = at ≡ top config before None
 
--- every output asked was put out but the last one after an underflow, whose cycle isn't above 0
-abbrev pub OnlyLastIsRefused : Option Exc → List Request → List Event → Type 0
-OnlyLastIsRefused None requests events = requests ≡ map Q.Out events
-OnlyLastIsRefused (Some RTIOUnderflow) requests events =
-    (refused : Event)
-    × (requests ≡ map Q.Out events ++ Q.Out refused ∷ [])
-    × IsTrue (int_le (coarse_of refused.stamp) (pos 0))
-OnlyLastIsRefused (Some _) requests events = ⊥
+-- so does each entry after those before it
+abbrev pub AreAtTop : Config → List Entry → List Entry → Type 0
+AreAtTop config before [] = Unit {0}
+AreAtTop config before (entry ∷ rest) = IsAtTop config before entry.act × AreAtTop config (before ++ entry ∷ []) rest
 
--- the run of a program under these replies, with the counter at 0 until its end
-pub record IsRunOf (program : ProgramTree) (replies : List Reply) (run : Run) : Type 0 where
-  pub right : AreRight (pos 0) (meant program replies).requests replies
-  pub events : run.events ≡ events_done (meant program replies).requests replies
-  pub ordered : IsTrue (cycles_rise run.events)
-  pub outcome : (meant program replies).outcome ≡ outcome_of run.raised
-  pub refused : OnlyLastIsRefused run.raised (meant program replies).requests run.events
-  pub cursor : run.cursor ≡ (meant program replies).cursor
-  pub counter : run.counter ≡ pos 8 *ℤ last_cycle run.events
+-- the requests and the outcome of a session are those of the meaning. Where it ended at the horizon the meaning goes no
+-- further for want of a reply: it asks one request more, which wasn't decided there
+abbrev pub EndsAs : Config → List Answered → Meaning → Outcome → Type 0
+EndsAs config answered m outcome.Returned = (m.outcome ≡ M.Returned) × (m.requests ≡ requests_of answered)
+EndsAs config answered m (outcome.Raised x) = (m.outcome ≡ M.Raised x) × (m.requests ≡ requests_of answered)
+EndsAs config answered m outcome.Budget = (m.outcome ≡ M.Budget) × (m.requests ≡ requests_of answered)
+EndsAs config answered m outcome.Horizon =
+    (m.outcome ≡ M.Unanswered)
+    × ((last : Request)
+    × (m.requests ≡ requests_of answered ++ last ∷ [])
+    × (is_decided config (open_history answered) last config.horizon ≡ false))
 
--- the run of a program, whose replies are kept
-pub record IsRun (program : ProgramTree) (run : Run) : Type 0 where
-  pub replies : List Reply
-  pub is_run : IsRunOf program replies run
+-- a session with these requests, replies, outcome and cursor is what the program means under these replies
+pub record IsMeant (program : ProgramTree) (answered : List Answered) (how : Outcome) (cursor : ℤ) : Type 0 where
+  pub ends : EndsAs default_config answered (meant program (replies_of answered)) how
+  pub cursor_is : cursor ≡ (meant program (replies_of answered)).cursor
+
+-- the run of a program leaves this core: its history is one session of the program's meaning, each request was asked
+-- where the core had stopped, and the counter went on until all was put out
+pub record IsRun (program : ProgramTree) (core : CoreState) (how : Outcome) (cursor : ℤ) : Type 0 where
+  pub config : core.config ≡ default_config
+  pub is_core : IsCore core
+  pub asked : List Answered
+  pub ended_at : ℕ
+  pub history : core.history ≡ ended_history asked how cursor ended_at
+  pub is_meant : IsMeant program asked how cursor
+  pub at_top : AreAtTop core.config [] core.history
+  pub drained : core.counter ≡ top core.config core.history None

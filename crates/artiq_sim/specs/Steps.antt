@@ -1,5 +1,5 @@
 -- The steps of a straight kernel: what they are as trees, where they move the cursor, what they put out.
-use Rattle.std.specs.Prelude.{◌≡◌, List, [], ◌∷◌, ◌++◌, ℤ, pos, neg_ℤ, Some, None, if◌then◌else◌, option_to_list, codes}
+use Rattle.std.specs.Prelude.{◌≡◌, List, [], ◌∷◌, ℤ, pos, neg_ℤ, Some, None, if◌then◌else◌, codes}
 use Rattle.std.specs.declared.option.Option.{Option}
 use Rattle.rtio_types.specs.declared.event.Event.{Event}
 use Rattle.rtio_types.specs.Time.{later}
@@ -52,13 +52,3 @@ output_of (At literal) cursor = None
 output_of (Delay literal) cursor = None
 output_of (On channel) cursor = Some (record { channel = channel.number; address = 0; value = 1; stamp = cursor })
 output_of (Off channel) cursor = Some (record { channel = channel.number; address = 0; value = 0; stamp = cursor })
-
--- the outputs of the steps from a cursor on
-abbrev pub outputs_from : ℤ → List Step → List Event
-outputs_from cursor [] = []
-outputs_from cursor (step ∷ steps) = option_to_list (output_of step cursor) ++ outputs_from (moved step cursor) steps
-
--- where the cursor stands after the steps
-abbrev pub cursor_after : ℤ → List Step → ℤ
-cursor_after cursor [] = cursor
-cursor_after cursor (step ∷ steps) = cursor_after (moved step cursor) steps

@@ -1,11 +1,9 @@
--- Straight programs: a `main` of constant calls whose outputs rise in cycles; else the first line that is wrong.
+-- Straight programs: a `main` of constant calls; else the first line that is wrong.
 use Rattle.std.specs.Prelude.{ℕ, ◌^◌, List, [], ◌∷◌, Bool, false, ◌&&◌, ◌||◌, nat_lt, bytes_eq, if◌then◌else◌, Option, Some, None, codes}
 use Rattle.rtio_types.specs.Board.{channel_of_name}
 use Rattle.kern_syntax.specs.declared.expression.UnaryOperator.TheVariants.{Negate}
 use Rattle.kern_syntax.specs.declared.program.DeclaredType.{DeclaredType}
 use Rattle.kern_syntax.specs.Tree.{Bytes, Expression, integer, unary, call, method, no_more, value_then, Statement, evaluate, Block, done, line_then, ParameterTree, FunctionTree, ProgramTree}
-use Rattle.artiq_sim.specs.Main.{line_behind}
-use Rattle.artiq_sim.specs.Runs.{events_planned, cycles_rise, are_in_range}
 
 -- a number below 10^18, with at most one minus before it
 abbrev pub is_amount : Expression → Bool
@@ -13,17 +11,17 @@ is_amount (integer n) = nat_lt n (10 ^ 18)
 is_amount (unary Negate (integer n)) = nat_lt n (10 ^ 18)
 is_amount _ = false
 
--- one of the channels 0 to 15
-abbrev pub is_ttl : Option ℕ → Bool
-is_ttl (Some channel) = nat_lt channel 16
-is_ttl None = false
+-- one of the channels 0 to 23, which are the outputs and the raw outputs
+abbrev pub is_output_channel : Option ℕ → Bool
+is_output_channel (Some channel) = nat_lt channel 24
+is_output_channel None = false
 
 -- one of the four calls
 abbrev pub is_straight_call : Expression → Bool
 is_straight_call (call function (value_then amount no_more)) =
     (bytes_eq function (codes "at_mu") || bytes_eq function (codes "delay_mu")) && is_amount amount
 is_straight_call (method object name no_more) =
-    is_ttl (channel_of_name object) && (bytes_eq name (codes "on") || bytes_eq name (codes "off"))
+    is_output_channel (channel_of_name object) && (bytes_eq name (codes "on") || bytes_eq name (codes "off"))
 is_straight_call _ = false
 
 -- a statement of such a call alone
@@ -31,17 +29,10 @@ abbrev pub is_straight_statement : Statement → Bool
 is_straight_statement (evaluate e) = is_straight_call e
 is_straight_statement _ = false
 
--- the outputs of a body rise in cycles, up to the greatest one
-abbrev pub obeys_cycles : Block → Bool
-obeys_cycles body = cycles_rise (events_planned body) && are_in_range (events_planned body)
-
--- the line of the first statement, behind those before it, that isn't straight or whose output breaks the rule on cycles
-abbrev pub wrong_line_behind : Block → Block → Option ℕ
-wrong_line_behind before done = None
-wrong_line_behind before (line_then line statement rest) =
-    if is_straight_statement statement && obeys_cycles (line_behind before line statement)
-    then wrong_line_behind (line_behind before line statement) rest
-    else Some line
+-- the line of the first statement that isn't straight
+abbrev pub wrong_line_of : Block → Option ℕ
+wrong_line_of done = None
+wrong_line_of (line_then line statement rest) = if is_straight_statement statement then wrong_line_of rest else Some line
 
 -- `main` without parameters and result type
 abbrev pub is_main : Bytes → List ParameterTree → Option DeclaredType → Bool
@@ -59,5 +50,5 @@ abbrev pub wrong_line : ProgramTree → Option ℕ
 wrong_line [] = Some 1
 wrong_line (function ∷ functions) =
     if is_main function.name function.parameters function.result
-    then or_second (wrong_line_behind done function.body) functions
+    then or_second (wrong_line_of function.body) functions
     else Some function.line

@@ -1,15 +1,19 @@
 // What the program answers to a text.
-ghost use Rattle.std.specs.Prelude.{◌≤◌, length, IfOk};
+ghost use Rattle.std.specs.Prelude.{◌≤◌, length, IfOk, IsTrue};
+ghost use Rattle.std.specs.List.{list_all};
 ghost use Rattle.kern_syntax.specs.TreeOf.{tree_of};
 ghost use Rattle.kern_types.specs.Programs.{IsTyped};
 ghost use Rattle.artiq_sim.specs.Texts.{IsKernel};
 ghost use Rattle.artiq_sim.specs.Answers.{IsAnswerTo};
-ghost use Rattle.artiq_sim.specs.Forms.{IsAnswerToProgram};
+ghost use Rattle.artiq_sim.specs.Entries.{asks_output};
+ghost use Rattle.artiq_sim.specs.Forms.{IsAnswerToProgram, IsReportOf};
 
 use crate::command::Command;
+use crate::finish::{Finish, finish_of};
+use crate::pending::pending;
 use crate::refusal::{code_refusal, form_refusal, lex_refusal, syntax_refusal, type_refusal};
 use crate::report::report;
-use crate::run::run;
+use crate::run::{Played, run};
 use crate::straight::{Form, form_of};
 use kern_lexer::{LexEnd, lex};
 use kern_parser::{SyntaxEnd, parse};
@@ -20,9 +24,9 @@ use std::alloc::{AllocError, Global};
 /// What the program says of a text.
 #[derive(Drop)]
 pub enum Answer {
-    /// The bytes that the command owes the text: the report of its run, and whether an exception ended that, or its
-    /// canonical text.
-    Due { bytes: Vec<u8>, raised: bool },
+    /// The bytes that the command owes the text: the report of its run, and how that was finished, or its canonical
+    /// text.
+    Due { bytes: Vec<u8>, finish: Finish },
     /// The line that says why the text is refused.
     Refused(Vec<u8>),
 }
@@ -82,7 +86,7 @@ fn answer_to_typed(alloc: Global, command: Command, program: &Program) -> Result
         Command::Sim => run_kernel(alloc, program),
         Command::Check => Ok(Answer::Due {
             bytes: print(alloc, program)?,
-            raised: false,
+            finish: Finish::Whole,
         }),
     }
 }
@@ -96,11 +100,21 @@ fn run_kernel(alloc: Global, program: &Program) -> Result<Answer, AllocError>
         Form::Wrong(line) => Ok(Answer::Refused(form_refusal(alloc, line)?)),
         Form::Straight(steps) => {
             let played = run(alloc, &steps)?;
-            let bytes = report(alloc, &played)?;
-            Ok(Answer::Due {
-                bytes,
-                raised: played.raised.is_some(),
-            })
+            answer_of_run(alloc, &played)
         }
     }
+}
+
+// The report of a run, and how it was finished.
+fn answer_of_run(alloc: Global, played: &Played) -> Result<Answer, AllocError>
+    requires outputs { IsTrue (list_all asks_output played.now.core.history) }
+    requires counter { played.now.core.counter ≤ 134217728 }
+    ensures { IfOk result (λ answer. IsReportOf played.now.core played.now.outcome played.now.cursor answer) }
+{
+    let pending = pending(alloc, &played.core)?;
+    let bytes = report(alloc, &played.core, &pending, played.outcome, played.cursor)?;
+    Ok(Answer::Due {
+        bytes,
+        finish: finish_of(played.outcome, &pending),
+    })
 }

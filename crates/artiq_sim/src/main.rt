@@ -4,10 +4,10 @@
 
 mod answer;
 mod command;
-mod played;
+mod finish;
+mod pending;
 mod refusal;
 mod report;
-mod rule;
 mod run;
 mod step;
 mod straight;

@@ -12,11 +12,11 @@ pub struct Literal {
     ghost small: { magnitude < 10 ^ 18 },
 }
 
-/// One of the channels `ttl0` to `ttl15`.
+/// One of the outputs `ttl0` to `ttl15` and the raw outputs `raw0` to `raw7`, which are the channels 0 to 23.
 #[derive(Clone, Copy, Debug)]
-pub struct Ttl {
+pub struct OutputChannel {
     pub number: u8,
-    ghost on_board: { number < 16 },
+    ghost on_board: { number < 24 },
 }
 
 /// A statement of a straight kernel.
@@ -26,10 +26,10 @@ pub enum Step {
     At(Literal),
     /// `delay_mu(N)` moves it.
     Delay(Literal),
-    /// `ttlK.on()` puts out a 1 at the cursor.
-    On(Ttl),
-    /// `ttlK.off()` puts out a 0 at the cursor.
-    Off(Ttl),
+    /// `ttlK.on()` or `rawK.on()` puts out a 1 at the cursor.
+    On(OutputChannel),
+    /// `ttlK.off()` or `rawK.off()` puts out a 0 at the cursor.
+    Off(OutputChannel),
 }
 
 impl Literal {
@@ -71,7 +71,7 @@ impl Step {
 }
 
 // A level that is put out at the cursor.
-fn level(channel: Ttl, value: u32, cursor: i64) -> Event
+fn level(channel: OutputChannel, value: u32, cursor: i64) -> Event
     ensures { result ≡ record { channel = channel.number; address = 0; value = value; stamp = cursor } }
 {
     Event {

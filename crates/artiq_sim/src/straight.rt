@@ -3,14 +3,11 @@ ghost use Rattle.std.specs.Prelude.{◌≡◌, ◌≢◌, ◌≤◌, ◌^◌, �
 ghost use Rattle.rtio_types.specs.Board.{name_of_channel, channel_of_name};
 ghost use Rattle.kern_syntax.specs.Tree.{Expression, call, method, evaluate, value_then, no_more};
 ghost use Rattle.kern_syntax.specs.TreeOf.{tree_of, function_of, block_of, statement_of, expression_of, arguments_of};
-ghost use Rattle.kern_syntax.specs.Nodes.{program_nodes};
-ghost use Rattle.artiq_sim.specs.Main.{statement_count};
-ghost use Rattle.artiq_sim.specs.Straight.{is_ttl, is_amount, is_straight_call, is_straight_statement, is_main};
+ghost use Rattle.artiq_sim.specs.Straight.{is_output_channel, is_amount, is_straight_call, is_straight_statement, is_main};
 ghost use Rattle.artiq_sim.specs.Steps.{call_of, literal_tree};
-ghost use Rattle.artiq_sim.specs.Forms.{IsFormOf, IsFormOfBody, may_follow, latest};
+ghost use Rattle.artiq_sim.specs.Forms.{IsFormOf, IsFormOfBody};
 
-use crate::rule::{last_output, obeys};
-use crate::step::{Literal, Step, Ttl};
+use crate::step::{Literal, OutputChannel, Step};
 use kern_syntax::{Argument, Block, Expr, Function, Program, StmtKind, UnaryOperator};
 use rtio_types::channel_named;
 use std::alloc::{AllocError, Global};
@@ -24,10 +21,8 @@ pub enum Form {
     Wrong(u32),
 }
 
-/// The steps of a straight program, or the line of the first function or statement that isn't straight, an output
-/// that breaks the rule on cycles included.
+/// The steps of a straight program, or the line of the first function or statement that isn't straight.
 pub fn form_of(alloc: Global, program: &Program) -> Result<Form, AllocError>
-    requires { program_nodes (tree_of program.now) ≤ 16384 }
     ensures { IfOk result (λ form. IsFormOf (tree_of program.now) form) }
 {
     let [function, others @ ..] = program.functions() else {
@@ -56,22 +51,13 @@ fn is_plain_main(function: &Function) -> bool
 
 // The same of the body of the first function.
 fn form_of_body(alloc: Global, body: &Block) -> Result<Form, AllocError>
-    requires { statement_count (block_of body.now) ≤ 16384 }
     ensures { IfOk result (λ form. IsFormOfBody (block_of body.now) form) }
 {
     let mut steps = Vec::new(alloc);
-    let mut cursor = 0;
-    let mut last = None;
     for statement in body.statements.iter() {
         let Some(step) = step_of(&statement.kind) else {
             return Ok(Form::Wrong(statement.line));
         };
-        let output = step.output(cursor);
-        if !obeys(last, output) {
-            return Ok(Form::Wrong(statement.line));
-        }
-        last = last_output(last, output);
-        cursor = step.moved(cursor);
         steps.push(step)?;
     }
     Ok(Form::Straight(steps))
@@ -139,7 +125,7 @@ fn method_step(object: &[u8], name: &[u8], arguments: &[Argument]) -> Option<Ste
     if !arguments.is_empty() {
         return None;
     }
-    let Some(channel) = ttl(object) else {
+    let Some(channel) = output_channel(object) else {
         return None;
     };
     if is_word(name, b"on") {
@@ -203,13 +189,13 @@ fn literal(negated: bool, magnitude: u64) -> Option<Literal>
 }
 
 // The output channel with this name.
-fn ttl(name: &[u8]) -> Option<Ttl>
+fn output_channel(name: &[u8]) -> Option<OutputChannel>
     ensures { MatchOption result
-        (is_ttl (channel_of_name name.now) ≡ false)
-        (λ ttl. (is_ttl (channel_of_name name.now) ≡ true) × (name.now ≡ name_of_channel ttl.number)) }
+        (is_output_channel (channel_of_name name.now) ≡ false)
+        (λ channel. (is_output_channel (channel_of_name name.now) ≡ true) × (name.now ≡ name_of_channel channel.number)) }
 {
     match channel_named(name) {
-        Some(number) if number < 16 => Some(Ttl { number }),
+        Some(number) if number < 24 => Some(OutputChannel { number }),
         _ => None,
     }
 }

@@ -1,5 +1,5 @@
 // The program as a function: words and bytes in, bytes and a status out.
-ghost use Rattle.std.specs.Prelude.{if◌then◌else◌, ◌≡◌, ◌≢◌, ℕ, ◌+◌, ◌≤◌, ◌<◌, List, [], length, map, string_bytes, IsTrue, ◌⊎◌, IfOk, Some, None, IsSome, codes};
+ghost use Rattle.std.specs.Prelude.{◌≡◌, ◌≢◌, ℕ, ◌+◌, ◌≤◌, ◌<◌, List, [], length, map, string_bytes, IsTrue, ◌⊎◌, IfOk, Some, None, IsSome, codes};
 ghost use Rattle.std.specs.Io.KnownBytes.{Appends};
 ghost use Rattle.lab_io.specs.Causes.{Rose};
 ghost use Rattle.kern_syntax.specs.Tree.{ProgramTree};
@@ -10,6 +10,7 @@ ghost use Rattle.artiq_sim.specs.Answers.{max_bytes, ReadsWhole, GivesDue, Tells
 
 use crate::answer::{Answer, answer_to};
 use crate::command::command_of;
+use crate::finish::status_of;
 use lab_io::{ReadEnd, Sink, Source, read_all, write_all};
 use std::alloc::Global;
 
@@ -43,7 +44,7 @@ pub fn sim_top<S: Source, K: Sink, E: Sink>(
     ensures memory { result ≡ 5 → OnlyTells (K.held out.old) (K.held out.new) (E.held err.old) (E.held err.new) (refusal_line memory) }
     // All that the source held is a text that the command takes, and out has what is due: under `sim` the report of its
     // run, under `check` its canonical text.
-    ensures due { (result ≡ 0) ⊎ (result ≡ 6) → GivesDue (command_of (map string_bytes words.now)) (S.left source.old) (S.left source.new) (K.held out.old) (K.held out.new) result
+    ensures due { (result ≡ 0) ⊎ ((result ≡ 6) ⊎ (result ≡ 7)) → GivesDue (command_of (map string_bytes words.now)) (S.left source.old) (S.left source.new) (K.held out.old) (K.held out.new) result
         × (E.held err.new ≡ E.held err.old) }
     // A sink failed, and has a part of what was due.
     ensures write_fault { result ≡ 4 →
@@ -86,7 +87,7 @@ pub fn sim_top<S: Source, K: Sink, E: Sink>(
         Ok(text) => match answer_to(alloc, command, &text) {
             Err(_) => told(err, b"memory\n", 5),
             Ok(Answer::Refused(line)) => told(err, &line, 1),
-            Ok(Answer::Due { bytes, raised }) => told(out, &bytes, end_status(raised)),
+            Ok(Answer::Due { bytes, finish }) => told(out, &bytes, status_of(finish)),
         },
     }
 }
@@ -99,14 +100,6 @@ pub fn without_memory<E: Sink>(err: &mut E) -> u8
     ensures statuses { (result ≡ 5) ⊎ (result ≡ 4) }
 {
     told(err, b"memory\n", 5)
-}
-
-// The status of a run by its end.
-fn end_status(raised: bool) -> u8
-    ensures value { result ≡ (if raised then 6 else 0) }
-    ensures ends { (result ≡ 0) ⊎ (result ≡ 6) }
-{
-    if raised { 6 } else { 0 }
 }
 
 // Writes what is due, and answers its status, or 4 where the sink failed.

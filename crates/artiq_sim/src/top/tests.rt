@@ -10,7 +10,8 @@ const USAGE: &str = "usage: artiq_sim sim or check or compile or exec or gen\n";
 const PAIR: &str =
     "def main():\n    at_mu(1000)\n    ttl0.on()\n    delay_mu(500)\n    ttl0.off()\n";
 
-const PAIR_REPORT: &str = "out 1000 0 0 1\nout 1500 0 0 0\nend ok\ncursor 1500\ncounter 1496\n";
+const PAIR_REPORT: &str =
+    "out 1000 0 0 1\nout 1500 0 0 0\nlanes 2 0 0 0 0 0 0 0\nend ok\ncursor 1500\ncounter 1496\n";
 
 // What a call of the program leaves.
 #[derive(Debug, Drop)]
@@ -64,44 +65,117 @@ fn straight_texts_are_reported(rt: HostRuntime) -> Result<(), Fail> {
         (
             "def main():\n    at_mu(-8)\n    ttl0.on()\n",
             6,
-            "end raised RTIOUnderflow\ncursor -8\ncounter 0\n",
+            "lanes 0 0 0 0 0 0 0 0\nend raised RTIOUnderflow\ncursor -8\ncounter 0\n",
         ),
         (
             "def main():\n    at_mu(7)\n    ttl0.on()\n    at_mu(1000)\n    ttl1.on()\n",
             6,
-            "end raised RTIOUnderflow\ncursor 7\ncounter 0\n",
+            "lanes 0 0 0 0 0 0 0 0\nend raised RTIOUnderflow\ncursor 7\ncounter 0\n",
         ),
         (
             "def main():\n    at_mu(8)\n    ttl15.on()\n",
             0,
-            "out 8 15 0 1\nend ok\ncursor 8\ncounter 8\n",
+            "out 8 15 0 1\nlanes 1 0 0 0 0 0 0 0\nend ok\ncursor 8\ncounter 8\n",
         ),
         // Comments, a decorator, blank lines, other spellings of numbers, and no line feed at the end.
         (
             "# sixteen\n@kernel\ndef main():\n  at_mu( 0x10 ) # \t$\n\n  delay_mu(-0)\r\n  ttl9.off()\n  delay_mu(-2_0)",
             0,
-            "out 16 9 0 0\nend ok\ncursor -4\ncounter 16\n",
+            "out 16 9 0 0\nlanes 1 0 0 0 0 0 0 0\nend ok\ncursor -4\ncounter 16\n",
         ),
         // Nothing is put out.
         (
             "def main():\n    delay_mu(999999999999999999)\n",
             0,
-            "end ok\ncursor 999999999999999999\ncounter 0\n",
+            "lanes 0 0 0 0 0 0 0 0\nend ok\ncursor 999999999999999999\ncounter 0\n",
         ),
-        // The last stamp in the greatest cycle, and the counter at its cycle's begin.
+        // Outputs are put out by their stamps: a lane takes rising cycles alone, so the earlier one goes to the next lane.
         (
-            "def main():\n    at_mu(1073741831)\n    ttl2.on()\n",
+            "def main():\n    at_mu(2000)\n    ttl0.on()\n    at_mu(1000)\n    ttl1.on()\n",
             0,
-            "out 1073741831 2 0 1\nend ok\ncursor 1073741831\ncounter 1073741824\n",
+            "out 1000 1 0 1\nout 2000 0 0 1\nlanes 1 1 0 0 0 0 0 0\nend ok\ncursor 1000\ncounter 2000\n",
         ),
     ];
     for (text, status, report) in cases {
-        let left = of_text(rt.alloc(), "sim", text)?;
-        assert_eq!(rt; left.status, status, "{text}");
-        assert_eq!(rt; left.out.as_slice(), report.as_bytes(), "{text}");
-        assert_eq!(rt; left.err.len(), 0, "{text}");
+        expect_report(&rt, rt.alloc(), text, status, report)?;
     }
     Ok(())
+}
+
+// Asserts that `sim` reports a text so.
+fn expect_report(
+    rt: &impl Abort,
+    alloc: Global,
+    text: &str,
+    status: u8,
+    report: &str,
+) -> Result<(), Fail> {
+    let left = of_text(alloc, "sim", text)?;
+    assert_eq!(rt; left.status, status, "{text}");
+    assert_eq!(rt; left.out.as_slice(), report.as_bytes(), "{text}");
+    assert_eq!(rt; left.err.len(), 0, "{text}");
+    Ok(())
+}
+
+#[test]
+fn events_that_are_not_put_out_are_told(rt: HostRuntime) -> Result<(), Fail> {
+    let cases = [
+        // Eight lanes take one event each in a cycle; the ninth is out of sequence.
+        (
+            "def main():\n    at_mu(1000)\n    ttl0.on()\n    ttl1.on()\n    ttl2.on()\n    ttl3.on()\n    ttl4.on()\n    ttl5.on()\n    ttl6.on()\n    ttl7.on()\n    ttl8.on()\n",
+            "out 1000 0 0 1\nout 1000 1 0 1\nout 1000 2 0 1\nout 1000 3 0 1\nout 1000 4 0 1\nout 1000 5 0 1\nout 1000 6 0 1\nout 1000 7 0 1\nseq 8 1000 8\nlanes 1 1 1 1 1 1 1 1\nend ok\ncursor 1000\ncounter 1000\n",
+        ),
+        // A later output of the same stamp replaces an earlier one, without a line.
+        (
+            "def main():\n    at_mu(1000)\n    ttl0.off()\n    ttl0.on()\n",
+            "out 1000 0 0 1\nlanes 1 1 0 0 0 0 0 0\nend ok\ncursor 1000\ncounter 1000\n",
+        ),
+        // One of another stamp in the same cycle collides.
+        (
+            "def main():\n    at_mu(1000)\n    ttl0.on()\n    delay_mu(1)\n    ttl0.off()\n",
+            "out 1000 0 0 1\ncol 1 1001 0\nlanes 1 1 0 0 0 0 0 0\nend ok\ncursor 1001\ncounter 1000\n",
+        ),
+        // Raw outputs replace nothing.
+        (
+            "def main():\n    at_mu(1000)\n    raw0.on()\n    raw0.on()\n",
+            "out 1000 16 0 1\ncol 1 1000 16\nlanes 1 1 0 0 0 0 0 0\nend ok\ncursor 1000\ncounter 1000\n",
+        ),
+    ];
+    for (text, report) in cases {
+        expect_report(&rt, rt.alloc(), text, 0, report)?;
+    }
+    Ok(())
+}
+
+// The counter ends in the greatest cycle: the last stamp of that is put out, and the next one never.
+#[test]
+fn an_event_beyond_the_last_cycle_pends(rt: HostRuntime) -> Result<(), Fail> {
+    expect_report(
+        &rt,
+        rt.alloc(),
+        "def main():\n    at_mu(1073741831)\n    ttl2.on()\n    delay_mu(1)\n    raw7.off()\n",
+        7,
+        "out 1073741831 2 0 1\npend 1073741832 23 0 0\nlanes 2 0 0 0 0 0 0 0\nend ok\ncursor 1073741832\ncounter 1073741824\n",
+    )
+}
+
+// Eight lanes hold 1,024 events. The next output waits until the first of them is put out, in cycle 125; an output of
+// that cycle is then too late.
+#[test]
+fn a_full_core_lets_outputs_wait(rt: HostRuntime) -> Result<(), Fail> {
+    let alloc = rt.alloc();
+    let mut text = String::from_str(alloc, "def main():\n    at_mu(1000)\n")?;
+    let mut report = String::new(alloc);
+    for number in 0u32..1025 {
+        text.push_str("    ttl3.on()\n    delay_mu(8)\n")?;
+        let stamp = 1000 + 8 * number;
+        writeln!(report, "out {stamp} 3 0 1")?;
+    }
+    text.push_str("    at_mu(1007)\n    ttl4.on()\n")?;
+    report.push_str(
+        "lanes 128 128 128 128 128 128 128 128\nend raised RTIOUnderflow\ncursor 1007\ncounter 9192\n",
+    )?;
+    expect_report(&rt, alloc, &text, 6, &report)
 }
 
 // Ten times the greatest number is 10^19 - 10, which wraps to that less 2^64.
@@ -116,7 +190,7 @@ fn the_cursor_wraps_at_64_bits(rt: HostRuntime) -> Result<(), Fail> {
     assert_eq!(rt; left.status, 6);
     assert_eq!(rt;
         left.out.as_slice(),
-        b"end raised RTIOUnderflow\ncursor -8446744073709551626\ncounter 0\n".as_slice()
+        b"lanes 0 0 0 0 0 0 0 0\nend raised RTIOUnderflow\ncursor -8446744073709551626\ncounter 0\n".as_slice()
     );
     Ok(())
 }
@@ -189,15 +263,8 @@ fn kernels_that_are_not_straight_are_refused_by_sim(rt: HostRuntime) -> Result<(
             "def main():\n    at_mu(8)\n\ndef f():\n    at_mu(8)\n",
             "form 4\n",
         ),
-        (
-            "def main():\n    at_mu(1000)\n    ttl0.off()\n    ttl0.on()\n",
-            "form 4\n",
-        ),
-        (
-            "def main():\n    at_mu(1073741832)\n    ttl0.on()\n",
-            "form 3\n",
-        ),
-        ("def main():\n    raw0.on()\n", "form 2\n"),
+        ("def main():\n    ttl0.pulse_mu(8)\n", "form 2\n"),
+        ("def main():\n    raw0.write(0, 1)\n", "form 2\n"),
         ("def main():\n    at_mu(1000000000000000000)\n", "form 2\n"),
         ("def main():\n    at_mu(--8)\n", "form 2\n"),
         ("def main():\n    at_mu((8))\n", "form 2\n"),

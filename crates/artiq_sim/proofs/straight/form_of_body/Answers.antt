@@ -1,48 +1,33 @@
-use Rattle.std.proofs.Common.{rules, ◌≡◌, [], None, sym, ap, subst, ◌∙◌, ◌+◌, drop}
-use Rattle.std.specs.Prelude.{pos}
-use Rattle.std.specs.Int.{w64}
-use Rattle.std.specs.Int.RustNames.{FitsSigned}
-use Rattle.std.proofs.lemmas.Int.{to_z-of_z}
+use Rattle.std.proofs.Common.{rules, ◌≡◌, [], ap, subst, ◌+◌, drop}
 use Rattle.std.proofs.lemmas.List.{drop_all}
 use Rattle.kern_syntax.specs.declared.statement.StmtKind.TheFolds.{the_lemmas}
 use Rattle.kern_syntax.specs.TreeOf.{block_of, lines_of, statement_of}
-use Rattle.artiq_sim.proofs.Checking.{Checked, check_start, form_at, rule_at, more_at, end_at}
+use Rattle.artiq_sim.proofs.Checking.{Checked, check_start, form_at, more_at, end_at}
 use Rattle.artiq_sim.proofs.StraightTrees.{line_at}
 use Rattle.artiq_sim.proofs.straight.form_of_body.Goals as goal
 
 pub loop-statement-init : goal.loop-statement-init
 loop-statement-init c =
     let same : block_of c.args.body.now ≡ lines_of c.deref-statement-items.result.now = search (rules, the_lemmas) in
-    rw c.new-steps.ensures.items (subst (λ b. Checked (block_of c.args.body.now) b [] (pos 0) None) same (check_start (block_of c.args.body.now)))
+    rw c.new-steps.ensures.items (subst (λ b. Checked (block_of c.args.body.now) b []) same (check_start (block_of c.args.body.now)))
 
 pub returns-in_default : goal.returns-in_default
 returns-in_default c =
     form_at (block_of c.args.body.now) _ c.statement-item.result.line (statement_of c.statement-item.result.kind)
-    (lines_of (drop (c.loop-statement.statement-index + 1) c.deref-statement-items.result.now)) c.loop-statement.steps.items _ c.loop-statement.last
+    (lines_of (drop (c.loop-statement.statement-index + 1) c.deref-statement-items.result.now)) c.loop-statement.steps.items
     (line_at c.deref-statement-items.result.now c.loop-statement.statement-index c.statement-item.result c.loop-statement-test.true c.statement-item.is)
     c.loop-statement.invariant c.in_default.ensures
 
-pub returns-then-not-obeys : goal.returns-then-not-obeys
-returns-then-not-obeys c =
-    rule_at (block_of c.args.body.now) _ c.statement-item.result.line (statement_of c.statement-item.result.kind)
-    (lines_of (drop (c.loop-statement.statement-index + 1) c.deref-statement-items.result.now)) c.loop-statement.steps.items _ c.loop-statement.last c.output-output.result c.in-Some.step
-    c.requires
-    (line_at c.deref-statement-items.result.now c.loop-statement.statement-index c.statement-item.result c.loop-statement-test.true c.statement-item.is)
-    c.loop-statement.invariant c.in-Some.ensures.0 c.in-Some.ensures.1 c.output-output.ensures (sym c.if-not-obeys.ensures)
-
 pub loop-statement-preserved : goal.loop-statement-preserved
 loop-statement-preserved c =
-    let fits : FitsSigned w64 c.moved-cursor.result = search rules in
     rw c.in_ok-push.ensures.items
     (more_at (block_of c.args.body.now) _ c.statement-item.result.line (statement_of c.statement-item.result.kind)
-    (lines_of (drop (c.loop-statement.statement-index + 1) c.deref-statement-items.result.now)) c.loop-statement.steps.items _ _ c.loop-statement.last c.output-output.result c.last_output-last.result c.in-Some.step
-    c.requires
+    (lines_of (drop (c.loop-statement.statement-index + 1) c.deref-statement-items.result.now)) c.loop-statement.steps.items c.in-Some.step
     (line_at c.deref-statement-items.result.now c.loop-statement.statement-index c.statement-item.result c.loop-statement-test.true c.statement-item.is)
-    c.loop-statement.invariant c.in-Some.ensures.0 c.in-Some.ensures.1 c.output-output.ensures (sym c.if-not-obeys.ensures)
-    (to_z-of_z w64 c.moved-cursor.result fits ∙ c.moved-cursor.ensures) c.last_output-last.ensures)
+    c.loop-statement.invariant c.in-Some.ensures.0 c.in-Some.ensures.1)
 
 pub returns : goal.returns
 returns c =
-    end_at (block_of c.args.body.now) _ c.loop-statement.steps.items _ c.loop-statement.last
+    end_at (block_of c.args.body.now) _ c.loop-statement.steps.items
     (ap lines_of (drop_all c.loop-statement.statement-index c.deref-statement-items.result.now c.loop-statement-test.false))
     c.loop-statement.invariant

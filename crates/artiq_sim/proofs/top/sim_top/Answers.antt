@@ -84,7 +84,7 @@ returns-in-Err-clause-write_fault g c = λ four.
 
 pub returns-clause-write_fault : goal.returns-clause-write_fault
 returns-clause-write_fault g c = λ four.
-    let due = due_answer c.in-Some.command _ c.in-Ok.text.items c.in-Ok-Due.field-0 c.in-Ok-Due.bytes c.in-Ok-Due.raised c.deref.ensures.value c.in-Ok-Due.field-0-is c.in-Ok-Due.ensures in
+    let due = due_answer c.in-Some.command _ c.in-Ok.text.items c.in-Ok-Due.field-0 c.in-Ok-Due.bytes c.in-Ok-Due.finish c.deref.ensures.value c.in-Ok-Due.field-0-is c.in-Ok-Due.ensures in
     inl (
       c.told-in-Ok-Due.ensures.cause four,
       record {
@@ -110,20 +110,20 @@ returns-clause-too_long_complete g c = λ left asked told more well.
 
 pub returns-clause-refused_only : goal.returns-clause-refused_only
 returns-clause-refused_only g c = λ command text line asked told few refused well.
-    let due = due_answer c.in-Some.command _ c.in-Ok.text.items c.in-Ok-Due.field-0 c.in-Ok-Due.bytes c.in-Ok-Due.raised c.deref.ensures.value c.in-Ok-Due.field-0-is c.in-Ok-Due.ensures in
+    let due = due_answer c.in-Some.command _ c.in-Ok.text.items c.in-Ok-Due.field-0 c.in-Ok-Due.bytes c.in-Ok-Due.finish c.deref.ensures.value c.in-Ok-Due.field-0-is c.in-Ok-Due.ensures in
     absurd {A = (c.told-in-Ok-Due.result ≡ 1) ⊎ (c.told-in-Ok-Due.result ≡ 5)} (not_refused_too _ _ text c.in-Ok.text.items line _ c.in-Some.command command (sym c.in-Some.ensures) asked told c.in-Ok.ensures.bytes.0 c.in-Ok.ensures.bytes.1 due.1 refused)
 
 pub returns-clause-due : goal.returns-clause-due
 returns-clause-due g c = λ good.
-    let due = due_answer c.in-Some.command _ c.in-Ok.text.items c.in-Ok-Due.field-0 c.in-Ok-Due.bytes c.in-Ok-Due.raised c.deref.ensures.value c.in-Ok-Due.field-0-is c.in-Ok-Due.ensures in
-    let same = not_four c.told-in-Ok-Due.result c.end_status.result c.told-in-Ok-Due.ensures.answer good in (
+    let due = due_answer c.in-Some.command _ c.in-Ok.text.items c.in-Ok-Due.field-0 c.in-Ok-Due.bytes c.in-Ok-Due.finish c.deref.ensures.value c.in-Ok-Due.field-0-is c.in-Ok-Due.ensures in
+    let same = not_four c.told-in-Ok-Due.result c.status_of.result c.told-in-Ok-Due.ensures.answer good in (
       record {
         command = c.in-Some.command;
         is_asked = sym c.in-Some.ensures;
         text = c.in-Ok.text.items;
         written = c.in-Ok-Due.bytes.items;
         read = record { taken = c.in-Ok.ensures.bytes.0; at_end = c.in-Ok.ensures.bytes.1; within = c.in-Ok.ensures.bytes.2 };
-        due = subst (λ n. IsDue c.in-Some.command c.in-Ok.text.items c.in-Ok-Due.bytes.items n) (sym (same ∙ c.end_status.ensures.value)) due.0;
+        due = subst (λ n. IsDue c.in-Some.command c.in-Ok.text.items c.in-Ok-Due.bytes.items n) (sym (same ∙ c.status_of.ensures)) due.0;
         grown = subst (λ x. Appends (g.K.Sink.held c.args.out.now) (g.K.Sink.held c.told-in-Ok-Due.new.sink) x) c.deref-in-Ok-Due.ensures.value (c.told-in-Ok-Due.ensures.whole same);
       },
       refl,
@@ -131,7 +131,7 @@ returns-clause-due g c = λ good.
 
 pub returns-clause-complete : goal.returns-clause-complete
 returns-clause-complete g c = λ command text program asked told few taken well.
-    let due = due_answer c.in-Some.command _ c.in-Ok.text.items c.in-Ok-Due.field-0 c.in-Ok-Due.bytes c.in-Ok-Due.raised c.deref.ensures.value c.in-Ok-Due.field-0-is c.in-Ok-Due.ensures in
+    let due = due_answer c.in-Some.command _ c.in-Ok.text.items c.in-Ok-Due.field-0 c.in-Ok-Due.bytes c.in-Ok-Due.finish c.deref.ensures.value c.in-Ok-Due.field-0-is c.in-Ok-Due.ensures in
     let same = same_command _ c.in-Some.command command (sym c.in-Some.ensures) asked in
-    let ends : IsEnd c.in-Some.command c.end_status.result = subst (λ n. IsEnd c.in-Some.command n) (sym c.end_status.ensures.value) (due_ends c.in-Some.command c.in-Ok.text.items c.in-Ok-Due.bytes.items _ due.0) in
-    inl (subst (λ x. IsEnd x c.told-in-Ok-Due.result) same (ends_told c.in-Some.command c.told-in-Ok-Due.result c.end_status.result c.told-in-Ok-Due.ensures.answer ends (λ four. well.out (c.told-in-Ok-Due.ensures.cause four))))
+    let ends : IsEnd c.in-Some.command c.status_of.result = subst (λ n. IsEnd c.in-Some.command n) (sym c.status_of.ensures) (due_ends c.in-Some.command c.in-Ok.text.items c.in-Ok-Due.bytes.items _ due.0) in
+    inl (subst (λ x. IsEnd x c.told-in-Ok-Due.result) same (ends_told c.in-Some.command c.told-in-Ok-Due.result c.status_of.result c.told-in-Ok-Due.ensures.answer ends (λ four. well.out (c.told-in-Ok-Due.ensures.cause four))))
