@@ -52,7 +52,8 @@ function least most = do
   flags ← byte 0 3
   give (record { first = first; params = params; slots = slots; value = flags % 2 == 1; plain = flags / 2 == 1 })
 
--- functions of which each begins behind the one before it, and within the code
+-- so many functions: the first of them begins in this range, and each later one behind the one before it and within the
+-- code
 abbrev pub functions : (count least most lines : ℕ) → Format (List CodeFunction)
 functions zero least most lines = give []
 functions (suc count) least most lines = do
