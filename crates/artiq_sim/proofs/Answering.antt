@@ -1,7 +1,6 @@
 -- What is answered to a text, by its tokens, its tree and the tree's form.
 use Rattle.std.proofs.Common.{◌≡◌, ℕ, ◌<◌, ◌≤◌, List, [], ◌∷◌, length, take, drop, Bool, true, false, refl, sym, ap, subst, ◌∙◌, arith, Some, None, nat_lt, get_or}
 use Rattle.std.specs.Prelude.{ℤ, suc, Ok, Err, Result, IfOk, slice_get}
-use Rattle.std.specs.declared.option.Option.{Option}
 use Rattle.std.proofs.lemmas.List.{length-map, take-append-drop, take_all}
 use Rattle.std.proofs.lemmas.Option.{slice_get_read}
 use Rattle.kern_lexer.specs.Symbols.{lexeme_of}

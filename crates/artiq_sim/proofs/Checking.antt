@@ -1,5 +1,5 @@
 -- Statements that are checked one by one.
-use Rattle.std.proofs.Common.{◌≡◌, ℕ, List, [], ◌∷◌, ◌++◌, length, false, true, Some, None, refl, sym, ap, subst, ◌∙◌, append_assoc, append-nil}
+use Rattle.std.proofs.Common.{◌≡◌, ℕ, List, [], ◌∷◌, ◌++◌, length, false, true, Some, refl, sym, ap, subst, ◌∙◌, append_assoc, append-nil}
 use Rattle.std.specs.Prelude.{suc}
 use Rattle.kern_syntax.specs.Tree.{Statement, evaluate, Block, done, line_then}
 use Rattle.artiq_sim.specs.declared.step.Step.{Step}

@@ -1,6 +1,6 @@
 -- Where the meaning of a straight program stands after some of its steps.
 use Rattle.std.proofs.Common.{◌≡◌, ℕ, ◌^◌, ◌<◌, ◌≤◌, List, [], ◌∷◌, ◌++◌, length, Bool, true, false, Some, None, refl, sym, ap, subst, ◌∙◌, arith, append-nil, append_assoc, nat_lt}
-use Rattle.std.specs.Prelude.{ℤ, pos, neg_ℤ, zero, suc, map, ⊤, codes, if◌then◌else◌, unsigned_abs, IsTrue}
+use Rattle.std.specs.Prelude.{ℤ, pos, neg_ℤ, zero, suc, ⊤, codes, if◌then◌else◌, unsigned_abs, IsTrue}
 use Rattle.std.specs.declared.option.Option.{Option}
 use Rattle.std.specs.Int.{w32, w64, int_wrap}
 use Rattle.std.proofs.lemmas.Int.{int_wrap_fits, fits_signed_from_abs}
@@ -15,7 +15,7 @@ use Rattle.rtio_types.specs.declared.request.Value.{Value}
 use Rattle.rtio_types.specs.Board.{name_of_channel, is_of_board}
 use Rattle.rtio_types.specs.Time.{later}
 use Rattle.kern_syntax.specs.declared.expression.UnaryOperator.TheVariants.{Negate}
-use Rattle.kern_syntax.specs.Tree.{Bytes, Expression, integer, unary, method, no_more, value_then, Statement, evaluate, Block, done, line_then, FunctionTree, ProgramTree}
+use Rattle.kern_syntax.specs.Tree.{Bytes, Expression, integer, unary, method, no_more, value_then, Statement, evaluate, Block, done, line_then, FunctionTree}
 use Rattle.kern_types.specs.declared.types.ValueType.TheVariants.{Int32, Int64}
 use Rattle.kern_types.specs.Types.{Scope, width_of, names_of}
 use Rattle.kern_types.specs.Calls.{Operation, builtin_named}

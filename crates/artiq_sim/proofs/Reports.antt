@@ -1,10 +1,8 @@
 -- The lines of a log that are written one by one.
-use Rattle.std.proofs.Common.{◌≡◌, ℕ, Bool, true, false, List, [], ◌∷◌, ◌++◌, refl, sym, ap, ◌∙◌, append-nil, cond}
-use Rattle.std.specs.Prelude.{map, filter, flat_map}
+use Rattle.std.proofs.Common.{◌≡◌, true, false, List, [], ◌∷◌, ◌++◌, refl, ap, ◌∙◌, append-nil}
+use Rattle.std.specs.Prelude.{map, filter}
 use Rattle.std.proofs.lemmas.List.{map-append}
 use Rattle.std.proofs.lemmas.List.Elements.{filter-append}
-use Rattle.std.proofs.lemmas.Grind.{flat_map-append}
-use Rattle.rtio_types.specs.declared.event.Event.{Event}
 use Rattle.rtio_log.specs.declared.LogLine.{LogLine}
 use Rattle.rtio_log.specs.declared.LogKind.{LogKind}
 use Rattle.rtio_log.specs.Kinds.{is_kind, lines_of}

@@ -1,6 +1,6 @@
 -- The session of a run, request by request.
-use Rattle.std.proofs.Common.{◌≡◌, ◌≢◌, ℕ, ◌+◌, ◌<◌, ◌≤◌, List, [], ◌∷◌, ◌++◌, length, Bool, true, false, Some, None, refl, sym, ap, subst, ◌∙◌, arith, append-nil, append_assoc}
-use Rattle.std.specs.Prelude.{ℤ, pos, map, IsTrue, option_map, ◌&&◌}
+use Rattle.std.proofs.Common.{◌≡◌, ◌≢◌, ℕ, ◌≤◌, List, [], ◌∷◌, ◌++◌, length, Bool, true, false, Some, None, refl, sym, ap, subst, ◌∙◌, arith}
+use Rattle.std.specs.Prelude.{ℤ, pos, IsTrue, option_map, ◌&&◌}
 use Rattle.std.specs.declared.option.Option.{Option}
 use Rattle.std.proofs.lemmas.List.{map-append}
 use Rattle.std.specs.List.{list_all}
@@ -25,10 +25,9 @@ use Rattle.rtio_core.specs.Top.{top}
 use Rattle.rtio_core.specs.Core.{CoreState, IsCore, core_top, request_of}
 use Rattle.rtio_core.specs.Calls.{MayEnd, NoOtherWaits, answered, ended}
 use Rattle.kern_syntax.specs.Tree.{FunctionTree, ProgramTree}
-use Rattle.timeline_sem.specs.declared.meant.MeantOutcome.TheVariants as M
 use Rattle.timeline_sem.specs.Programs.{Meaning}
 use Rattle.artiq_sim.specs.declared.step.Step.{Step}
-use Rattle.artiq_sim.specs.Runs.{budget, meant, default_config, start_of_main, Answered, requests_of, replies_of, entry_of, asked_entry, open_history, ended_history, IsAtTop, AreAtTop, EndsAs, IsMeant, IsRun}
+use Rattle.artiq_sim.specs.Runs.{budget, default_config, start_of_main, Answered, entry_of, asked_entry, open_history, AreAtTop, IsMeant, IsRun}
 use Rattle.artiq_sim.specs.declared.run.Submission.{Submission}
 use Rattle.artiq_sim.specs.declared.run.Submission.TheVariants as S
 use Rattle.artiq_sim.specs.Sessions.{Gains, GetsReply, Submits, RepliesAt, AnswersAt, HasPlayed, submission_of}

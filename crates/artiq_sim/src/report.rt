@@ -165,7 +165,7 @@ mod tests {
     use super::*;
     use std::test::Fail;
 
-    // No straight kernel uses up its units, and none waits up to the last cycle.
+    // No straight kernel uses up its units.
     #[test]
     fn an_end_has_its_line(rt: HostRuntime) -> Result<(), Fail> {
         let cases = [

@@ -159,6 +159,25 @@ fn an_event_beyond_the_last_cycle_pends(rt: HostRuntime) -> Result<(), Fail> {
     )
 }
 
+// Eight lanes hold 1,024 events, here all beyond the last cycle. The next output waits in vain.
+#[test]
+fn an_output_waits_up_to_the_last_cycle(rt: HostRuntime) -> Result<(), Fail> {
+    let alloc = rt.alloc();
+    let mut text = String::from_str(alloc, "def main():\n    at_mu(1073741832)\n")?;
+    let mut report = String::new(alloc);
+    for number in 0u32..1025 {
+        text.push_str("    ttl3.on()\n    delay_mu(8)\n")?;
+        let stamp = 1073741832 + 8 * number;
+        if number < 1024 {
+            writeln!(report, "pend {stamp} 3 0 1")?;
+        }
+    }
+    report.push_str(
+        "lanes 128 128 128 128 128 128 128 128\nend horizon 134217728\ncursor 1073750024\ncounter 1073741824\n",
+    )?;
+    expect_report(&rt, alloc, &text, 7, &report)
+}
+
 // Eight lanes hold 1,024 events. The next output waits until the first of them is put out, in cycle 125; an output of
 // that cycle is then too late.
 #[test]

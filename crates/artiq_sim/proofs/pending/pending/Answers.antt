@@ -1,6 +1,5 @@
-use Rattle.std.proofs.Common.{◌≡◌, ℕ, ◌+◌, List, ◌++◌, ◌∷◌, [], take, drop, sym, ap, subst, ◌∙◌, arith, refl, nat_lt, Bool}
-use Rattle.std.specs.Prelude.{◌&&◌, true, false}
-use Rattle.rtio_types.specs.declared.event.Event.{Event}
+use Rattle.std.proofs.Common.{ℕ, ◌+◌, List, ◌++◌, ◌∷◌, [], take, drop, sym, ap, subst, ◌∙◌, arith, refl, nat_lt}
+use Rattle.std.specs.Prelude.{◌&&◌}
 use Rattle.rtio_types.specs.Time.{cycle_of}
 use Rattle.rtio_core.specs.declared.data.Entry.{Entry}
 use Rattle.artiq_sim.proofs.Held.{Walked, numbers_of, here, step-quiet, step-asks, step-numbers, walked-missed, walked-pushed, walked-skipped, not-next}

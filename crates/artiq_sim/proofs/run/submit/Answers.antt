@@ -1,4 +1,3 @@
-use Rattle.std.proofs.Common.{sym}
 use Rattle.artiq_sim.proofs.Sessions.{submits-first, submits-second}
 use Rattle.artiq_sim.proofs.run.submit.Goals as goal
 
