@@ -1,4 +1,4 @@
-mod Lists
+pub mod Lists
 pub mod Scripts
 mod Growing
 mod Resets
@@ -9,4 +9,5 @@ pub mod Standing
 mod Made
 mod Examples
 pub mod Undecided
+pub mod Fitting
 pub mod Waiting

@@ -46,7 +46,7 @@ pub record IsUndecided (u : Unread) (counter : ℕ) (up_to : ℤ) : Type 0 where
   pub idle : IsIdle u
   pub early : int_le up_to (pos (reading counter)) ≡ false
 
-undecided-parts : (u : Unread) (counter : ℕ) (up_to : ℤ) → edge_reply u counter up_to ≡ None → IsUndecided u counter up_to
+pub undecided-parts : (u : Unread) (counter : ℕ) (up_to : ℤ) → edge_reply u counter up_to ≡ None → IsUndecided u counter up_to
 undecided-parts u counter up_to open_ = marked u.overflow refl open_
   where
     early : (b : Bool) → int_le up_to (pos (reading counter)) ≡ b → cond b (Some answer.NoEdge) None ≡ None → int_le up_to (pos (reading counter)) ≡ false

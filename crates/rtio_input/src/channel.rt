@@ -1,6 +1,6 @@
 // One input, with its unread edges.
 
-ghost use Rattle.std.specs.Prelude.{◌≡◌, IfOk};
+ghost use Rattle.std.specs.Prelude.{◌≡◌, IfOk, is_some};
 ghost use Rattle.rtio_input.specs.Channel.{after_edge, closed_channel, edge_reply};
 ghost use Rattle.rtio_input.specs.Calls.{after_own_edge, after_reply, sensitivity_among};
 ghost use Rattle.rtio_input.specs.Past.{sees};
@@ -115,6 +115,13 @@ impl Channel {
             None if i128::from(up_to) <= 8 * i128::from(counter) => Some(Reply::NoEdge),
             None => None,
         }
+    }
+
+    /// Whether a request for an edge below `up_to` gets a reply.
+    pub fn is_decided(&self, counter: u64, up_to: i64) -> bool
+        ensures { result ≡ is_some (edge_reply self.now.unread counter up_to) }
+    {
+        self.overflow || !self.unread.is_empty() || i128::from(up_to) <= 8 * i128::from(counter)
     }
 
     /// Forgets the unread edges, the mark and the sensitivity.

@@ -1,6 +1,6 @@
 // The inputs of a core.
 
-ghost use Rattle.std.specs.Prelude.{◌≡◌, ◌<◌, ◌++◌, [], ◌∷◌, List, ℕ, IfOk, IsTrue};
+ghost use Rattle.std.specs.Prelude.{◌≡◌, ◌<◌, ◌++◌, [], ◌∷◌, List, ℕ, IfOk, IsTrue, is_some};
 ghost use Rattle.rtio_types.specs.Board.{is_input};
 ghost use Rattle.rtio_types.specs.declared.event.Edge.{Edge};
 ghost use Rattle.rtio_types.specs.declared.event.Event.{Event};
@@ -83,6 +83,18 @@ impl Inputs {
             → StandFor self.new script outputs (steps ++ answered_steps counter channel result) counter }
     {
         self.channels[(channel - FIRST) as usize].answer(counter, up_to)
+    }
+
+    /// Whether a request for an edge is decided at this counter: whether `ask_edge` would answer it.
+    pub fn is_decided(&self, counter: u64, channel: u8, up_to: i64) -> bool
+        requires { IsTrue (is_input channel) }
+        ensures value { result ≡ is_some (edge_reply (channel_at self.now.channels channel).unread counter up_to) }
+        // It is so by all that happened, where the inputs stand for that.
+        ensures right { (script : List Edge) (outputs : List Event) (steps : List InputStep)
+            → StandFor self.now script outputs steps counter
+            → result ≡ is_some (edge_reply (unread_at script outputs steps counter channel) counter up_to) }
+    {
+        self.channels[(channel - FIRST) as usize].is_decided(counter, up_to)
     }
 
     /// Drops the unread edges and clears the overflows. Sensitivities of before count no more.

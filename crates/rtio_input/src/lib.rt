@@ -10,5 +10,5 @@ mod laws;
 mod script;
 
 pub use inputs::Inputs;
-pub use laws::{a_decided_edge_stays_decided, no_edge_no_change};
+pub use laws::{a_decided_edge_stays_decided, an_edge_reply_fits, no_edge_no_change};
 pub use script::edges_ok;
