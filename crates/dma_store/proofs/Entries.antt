@@ -69,7 +69,7 @@ resaved_entries name recording entries =
     else entries ++ (name, recording) ∷ []
 
 -- an entry that isn't that of the name, before others
-resaved-behind : (name : List ℕ) (recording : Recorded) (entry : List ℕ × Recorded) (entries : List (List ℕ × Recorded)) → is_named name entry ≡ false → resaved_entries name recording (entry ∷ entries) ≡ entry ∷ resaved_entries name recording entries
+pub resaved-behind : (name : List ℕ) (recording : Recorded) (entry : List ℕ × Recorded) (entries : List (List ℕ × Recorded)) → is_named name entry ≡ false → resaved_entries name recording (entry ∷ entries) ≡ entry ∷ resaved_entries name recording entries
 resaved-behind name recording entry entries isnt = rw isnt (by (list_any (is_named name) entries))
   where
     by : (b : Bool) → cond b (entry ∷ map (resaved name recording) entries) (entry ∷ entries ++ (name, recording) ∷ []) ≡ entry ∷ cond b (map (resaved name recording) entries) (entries ++ (name, recording) ∷ [])

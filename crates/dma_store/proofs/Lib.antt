@@ -7,4 +7,5 @@ pub mod Right
 pub mod Decoded
 pub mod Handles
 pub mod Spellings
+pub mod Named
 mod Examples

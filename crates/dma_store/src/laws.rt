@@ -1,9 +1,21 @@
 //! What holds of every store, and of all recording bytes.
 
-ghost use Rattle.std.specs.Prelude.{◌≡◌, ◌<◌, ◌≤◌, ◌^◌, ◌++◌, ◌↔◌, ℕ, ℤ, List, [], None, Some, length, slice_index, IsTrue};
+ghost use Rattle.std.specs.Prelude.{◌≡◌, ◌<◌, ◌≤◌, ◌^◌, ◌++◌, ◌↔◌, ℕ, ℤ, List, [], None, Some, length, slice_index, bytes_eq, if◌then◌else◌, IsTrue};
 ghost use Rattle.rtio_types.specs.Recordings.{Recorded};
-ghost use Rattle.dma_store.specs.Kept.{KeptState, handle_of, is_old, next_epoch, recording_handled, recording_named};
+ghost use Rattle.dma_store.specs.Kept.{KeptState, erased, handle_of, is_old, next_epoch, recording_handled, recording_named, saved};
 ghost use Rattle.dma_store.specs.Spelling.{IsSpelling, first_wrong, spelling};
+
+/// A name fetches what was saved under it last, and a save under another name changes nothing of that.
+pub fn a_save_is_fetched()
+    ensures { (kept : KeptState) (name other : List ℕ) (recording : Recorded) → recording_named (saved kept other recording) name
+        ≡ (if bytes_eq name other then Some recording else recording_named kept name) }
+{}
+
+/// An erased name fetches nothing, and the others fetch what they did.
+pub fn an_erased_name_fetches_nothing()
+    ensures { (kept : KeptState) (name other : List ℕ) → recording_named (erased kept other) name
+        ≡ (if bytes_eq name other then None else recording_named kept name) }
+{}
 
 /// As long as nothing is saved or erased, the handle of a name fetches what the name does.
 pub fn handles_fetch_what_they_name()

@@ -9,7 +9,8 @@ mod tests;
 
 pub use bytes::{DmaEnd, decode, encode};
 pub use laws::{
-    a_spelling_has_one_recording, handles_fetch_what_they_name, handles_grow_old,
-    no_spelling_begins_another, right_bytes_are_spellings,
+    a_save_is_fetched, a_spelling_has_one_recording, an_erased_name_fetches_nothing,
+    handles_fetch_what_they_name, handles_grow_old, no_spelling_begins_another,
+    right_bytes_are_spellings,
 };
 pub use store::{FetchEnd, HandleEnd, NoTrace, SaveEnd, Store};
