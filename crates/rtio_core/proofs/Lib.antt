@@ -1,4 +1,5 @@
 mod Rows
+mod RecordingRows
 pub mod Laws
 pub mod Settings
 pub mod Next
@@ -7,8 +8,13 @@ mod Moves
 mod LogLines
 mod Submitted
 mod Ticked
+mod Cycled
 mod Asked
 mod Waited
+mod AskedEdges
+mod Edges
 mod Tops
 mod Reasons
 mod Emptied
+mod Stored
+pub mod LastSaved

@@ -5,6 +5,9 @@ use Rattle.std.proofs.Common.{lit<}
 use Rattle.std.specs.declared.alloc.Global.{Global}
 use Rattle.std.specs.List.{range_with_len}
 use Rattle.sed_lanes.specs.Lanes.{empty_lanes, held_events}
+use Rattle.rtio_input.specs.Channel.{InputsState}
+use Rattle.rtio_input.specs.Past.{StandFor}
+use Rattle.dma_store.specs.Kept.{KeptState, no_recordings}
 use Rattle.rtio_core.specs.declared.data.Config.{Config}
 use Rattle.rtio_core.specs.declared.data.Entry.{Entry}
 use Rattle.rtio_core.specs.Entries.{is_config_ok}
@@ -46,8 +49,8 @@ played-new lanes depth o some few deep is_empty no_lines no_output short zeros n
     }
 
 -- what `new` makes is what an empty history makes of it
-pub new_keeps : (config : Config) (entries : Vec Entry Global) (outputs : Outputs) → IsTrue (is_config_ok config) → entries.items ≡ [] → IsPlayed outputs config.lanes config.depth [] 0 → IsCoreInside (record { config = config; entries = entries; count = 0; pending = None; outputs = outputs; session = None; cursor = pos 0; limit = 0 })
-new_keeps config entries outputs ok none played =
+pub new_keeps : (config : Config) (entries : Vec Entry Global) (outputs : Outputs) (inputs : InputsState) (store : KeptState) → IsTrue (is_config_ok config) → entries.items ≡ [] → IsPlayed outputs config.lanes config.depth [] 0 → StandFor inputs config.edges [] [] 0 → store ≡ no_recordings → IsCoreInside (record { config = config; entries = entries; count = 0; pending = None; outputs = outputs; inputs = inputs; store = store; session = None; cursor = pos 0; limit = 0 })
+new_keeps config entries outputs inputs store ok none played stands kept =
     record {
       core = record {
         config = ok;
@@ -57,7 +60,10 @@ new_keeps config entries outputs ok none played =
         bounded = omega arith;
       };
       pending = λ _. refl;
+      formed = refl;
       played = rw none played;
+      inputs = rw none stands;
+      store = rw none kept;
       session = rw none refl;
       cursor = rw none refl;
       limit = rw none refl;

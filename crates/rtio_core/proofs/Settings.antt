@@ -2,6 +2,7 @@
 use Rattle.std.proofs.Common.{ℕ, ◌≤◌, Bool, true, false, refl}
 use Rattle.std.specs.Prelude.{◌&&◌, nat_le, IsTrue}
 use Rattle.std.proofs.lemmas.Bool.{leb-true}
+use Rattle.rtio_input.specs.Script.{are_edges_ok}
 use Rattle.rtio_core.specs.declared.data.Config.{Config}
 use Rattle.rtio_core.specs.Entries.{is_config_ok}
 
@@ -17,23 +18,25 @@ pub record AreInRange (config : Config) : Type 0 where
   pub cost_most : config.cost ≤ 1000000
   pub horizon_least : 1 ≤ config.horizon
   pub horizon_most : config.horizon ≤ 134217728
+  pub edges : IsTrue (are_edges_ok config.edges)
 
 least : (a b : ℕ) → IsTrue (nat_le a b) → a ≤ b
 least a b h = leb-true a b h
 
-seven : (a b c d e f g : Bool) → IsTrue (a && b && c && d && e && f && g) → IsTrue a × IsTrue b × IsTrue c × IsTrue d × IsTrue e × IsTrue f × IsTrue g
-seven a b c d e f g h =
-    let six = both (a && b && c && d && e && f) g h in
+eight : (a b c d e f g h : Bool) → IsTrue (a && b && c && d && e && f && g && h) → IsTrue a × IsTrue b × IsTrue c × IsTrue d × IsTrue e × IsTrue f × IsTrue g × IsTrue h
+eight a b c d e f g h all =
+    let seven = both (a && b && c && d && e && f && g) h all in
+    let six = both (a && b && c && d && e && f) g seven.0 in
     let five = both (a && b && c && d && e) f six.0 in
     let four = both (a && b && c && d) e five.0 in
     let three = both (a && b && c) d four.0 in
     let two = both (a && b) c three.0 in
     let one = both a b two.0 in
-    (one.0, one.1, two.1, three.1, four.1, five.1, six.1)
+    (one.0, one.1, two.1, three.1, four.1, five.1, six.1, seven.1)
 
 pub ranges-of : (config : Config) → IsTrue (is_config_ok config) → AreInRange config
 ranges-of config ok =
-    let parts = seven (nat_le 1 config.lanes) (nat_le config.lanes 32) (nat_le 1 config.depth) (nat_le config.depth 1024) (nat_le config.cost 1000000) (nat_le 1 config.horizon) (nat_le config.horizon 134217728) ok in
+    let parts = eight (nat_le 1 config.lanes) (nat_le config.lanes 32) (nat_le 1 config.depth) (nat_le config.depth 1024) (nat_le config.cost 1000000) (nat_le 1 config.horizon) (nat_le config.horizon 134217728) (are_edges_ok config.edges) ok in
     record {
       lanes_least = least 1 config.lanes parts.0;
       lanes_most = least config.lanes 32 parts.1;
@@ -42,6 +45,7 @@ ranges-of config ok =
       cost_most = least config.cost 1000000 parts.4;
       horizon_least = least 1 config.horizon parts.5;
       horizon_most = least config.horizon 134217728 parts.6;
+      edges = parts.7;
     }
 
 pub horizon-most : (config : Config) → IsTrue (is_config_ok config) → config.horizon ≤ 134217728

@@ -1,21 +1,29 @@
 -- The history of a core.
-use Rattle.std.specs.Prelude.{ℕ, ◌+◌, Bool, ◌&&◌, List, filter_map, fold, max, nat_le, ℤ, pos, Option, Some, None}
+use Rattle.std.specs.Prelude.{ℕ, ◌+◌, Bool, ◌&&◌, List, filter_map, fold, max, nat_le, bytes_eq, if◌then◌else◌, ℤ, pos, Option, Some, None}
+use Rattle.rtio_types.specs.declared.request.Reply.{Reply}
+use Rattle.rtio_types.specs.declared.request.Reply.TheVariants as answer
+use Rattle.rtio_types.specs.declared.request.Request.{Request}
 use Rattle.rtio_types.specs.declared.request.Request.TheVariants as ask
+use Rattle.rtio_types.specs.Recordings.{Recorded}
 use Rattle.rtio_types.specs.Time.{reading}
 use Rattle.sed_lanes.specs.Judged.{LaneStep, Submit, Clear, Judged, judged}
+use Rattle.rtio_input.specs.Script.{are_edges_ok}
+use Rattle.rtio_input.specs.Past.{InputStep, Read, Overflowed, Reset}
+use Rattle.dma_store.specs.Kept.{KeptState, no_recordings, saved, erased}
 use Rattle.rtio_core.specs.declared.data.Config.{Config}
 use Rattle.rtio_core.specs.declared.data.Act.{Act}
 use Rattle.rtio_core.specs.declared.data.Act.TheVariants.{Start, Asked, End}
 use Rattle.rtio_core.specs.declared.data.Entry.{Entry}
 
 -- the numbers of the settings are in their ranges: 1 to 32 lanes of 1 to 1,024 events, a cost of up to 1,000,000 mu, and a
--- horizon of 1 to 134,217,728 cycles
+-- horizon of 1 to 134,217,728 cycles; the edges can be a script
 abbrev pub is_config_ok : Config → Bool
 is_config_ok config =
     nat_le 1 config.lanes && nat_le config.lanes 32
     && nat_le 1 config.depth && nat_le config.depth 1024
     && nat_le config.cost 1000000
     && nat_le 1 config.horizon && nat_le config.horizon 134217728
+    && are_edges_ok config.edges
 
 -- the counter at which the entry was made
 abbrev pub act_at : Act → ℕ
@@ -70,3 +78,37 @@ lane_steps history = filter_map (λ (entry : Entry). lane_step entry.act) histor
 -- the same with the verdicts
 abbrev pub judged_history : Config → List Entry → List Judged
 judged_history config history = judged config.lanes config.depth (lane_steps history)
+
+-- what an entry is to the inputs
+abbrev pub input_step : Act → Option InputStep
+input_step (Asked (ask.Edge channel up_to) (answer.Stamp x) at) = Some (Read at channel)
+input_step (Asked (ask.Edge channel up_to) answer.Overflow at) = Some (Overflowed at channel)
+input_step (Asked ask.Reset reply at) = Some (Reset at)
+input_step act = None
+
+-- the edges read, the overflows told and the resets of the history
+abbrev pub input_steps : List Entry → List InputStep
+input_steps history = filter_map (λ (entry : Entry). input_step entry.act) history
+
+-- what is kept once that was the reply
+abbrev pub kept_by : KeptState → Request → Reply → KeptState
+kept_by kept (ask.Save name recording) answer.Done = saved kept name recording
+kept_by kept (ask.Erase name) answer.Done = erased kept name
+kept_by kept request reply = kept
+
+-- the recordings that the saves and erases of the history leave
+abbrev pub kept_after : List Entry → KeptState
+kept_after history = fold (λ kept (entry : Entry). after kept entry.act) no_recordings history
+  where
+    after : KeptState → Act → KeptState
+    after kept (Asked request reply at) = kept_by kept request reply
+    after kept act = kept
+
+-- the recording of the last save of a name, if the name wasn't erased since
+abbrev pub last_saved : List ℕ → List Entry → Option Recorded
+last_saved name history = fold (λ found (entry : Entry). after found entry.act) None history
+  where
+    after : Option Recorded → Act → Option Recorded
+    after found (Asked (ask.Save other recording) answer.Done at) = if bytes_eq name other then Some recording else found
+    after found (Asked (ask.Erase other) answer.Done at) = if bytes_eq name other then None else found
+    after found act = found

@@ -10,3 +10,4 @@ pub mod Lines
 pub mod Played
 pub mod Fields
 pub mod Errors
+pub mod Recordings

@@ -1,18 +1,22 @@
 -- The right reply to a request, by the history before it and the counter.
-use Rattle.std.specs.Prelude.{ℕ, Bool, true, false, List, pos, int_le, if◌then◌else◌, Option, Some, None, is_some}
+use Rattle.std.specs.Prelude.{ℕ, Bool, List, ℤ, pos, int_le, if◌then◌else◌, Option, Some, None, is_some}
 use Rattle.rtio_types.specs.declared.event.Event.{Event}
 use Rattle.rtio_types.specs.declared.request.Request.{Request}
 use Rattle.rtio_types.specs.declared.request.Request.TheVariants as ask
 use Rattle.rtio_types.specs.declared.request.Reply.{Reply}
 use Rattle.rtio_types.specs.declared.request.Reply.TheVariants as answer
+use Rattle.rtio_types.specs.Recordings.{Recorded}
 use Rattle.rtio_types.specs.Time.{reading}
 use Rattle.sed_lanes.specs.Lanes.{LanesState}
 use Rattle.sed_lanes.specs.Verdict.{Verdict, Underflow, Lane, Sequence, Undecided, verdict}
 use Rattle.sed_lanes.specs.Judged.{lanes_after}
 use Rattle.output_merge.specs.Outputs.{outputs}
+use Rattle.rtio_input.specs.Channel.{Unread, edge_reply}
+use Rattle.rtio_input.specs.Past.{unread_at}
+use Rattle.dma_store.specs.Kept.{handle_of, is_full_for, is_kept, recording_handled, recording_named}
 use Rattle.rtio_core.specs.declared.data.Config.{Config}
 use Rattle.rtio_core.specs.declared.data.Entry.{Entry}
-use Rattle.rtio_core.specs.Entries.{judged_history}
+use Rattle.rtio_core.specs.Entries.{input_steps, judged_history, kept_after}
 
 -- the lanes at a counter
 abbrev pub lanes_at : Config → List Entry → ℕ → LanesState
@@ -26,6 +30,11 @@ verdict_at config history e counter = verdict (lanes_at config history counter) 
 abbrev pub outputs_at : Config → List Entry → ℕ → List Event
 outputs_at config history counter = outputs (judged_history config history) counter
 
+-- what an input has unread at a counter
+abbrev pub unread_in : Config → List Entry → ℕ → ℕ → Unread
+unread_in config history counter channel =
+    unread_at config.edges (outputs_at config history counter) (input_steps history) counter channel
+
 -- an event out of sequence is done with too
 abbrev pub reply_to_event : Verdict → Option Reply
 reply_to_event Underflow = Some answer.Underflow
@@ -33,23 +42,30 @@ reply_to_event (Lane k) = Some answer.Done
 reply_to_event Sequence = Some answer.Done
 reply_to_event Undecided = None
 
--- a core answers these: outputs, readings of the counter, resets, waits and datasets
-abbrev pub is_served : Request → Bool
-is_served (ask.Out e) = true
-is_served ask.Counter = true
-is_served ask.Reset = true
-is_served (ask.Wait until) = true
-is_served (ask.Data name value) = true
-is_served other = false
+-- the recording, and where there is none, another reply
+abbrev pub trace_or : Reply → Option Recorded → Reply
+trace_or otherwise (Some recording) = answer.Trace recording
+trace_or otherwise None = otherwise
 
--- the reply that is right at the counter, None where the request isn't decided yet; one that a core doesn't answer never is
+-- the handle, and where there is none, another reply
+abbrev pub handle_or : Reply → Option ℤ → Reply
+handle_or otherwise (Some handle) = answer.Handle handle
+handle_or otherwise None = otherwise
+
+-- the reply that is right at the counter, None where the request isn't decided yet
 abbrev pub reply_to : Config → List Entry → Request → ℕ → Option Reply
 reply_to config history (ask.Out e) counter = reply_to_event (verdict_at config history e counter)
 reply_to config history ask.Counter counter = Some (answer.Time (pos (reading counter)))
 reply_to config history ask.Reset counter = Some (answer.Time (pos (reading counter)))
 reply_to config history (ask.Wait until) counter = if int_le until (pos (reading counter)) then Some answer.Done else None
+reply_to config history (ask.Edge channel up_to) counter = edge_reply (unread_in config history counter channel) counter up_to
+reply_to config history (ask.Save name recording) counter =
+    if is_full_for (kept_after history) name then Some answer.Full else Some answer.Done
+reply_to config history (ask.Fetch name) counter = Some (trace_or answer.NoTrace (recording_named (kept_after history) name))
+reply_to config history (ask.FetchHandle handle) counter = Some (trace_or answer.OldHandle (recording_handled (kept_after history) handle))
+reply_to config history (ask.Handle name) counter = Some (handle_or answer.NoTrace (handle_of (kept_after history) name))
+reply_to config history (ask.Erase name) counter = if is_kept (kept_after history) name then Some answer.Done else Some answer.NoTrace
 reply_to config history (ask.Data name value) counter = Some answer.Done
-reply_to config history other counter = None
 
 -- whether the request is decided at the counter
 abbrev pub is_decided : Config → List Entry → Request → ℕ → Bool

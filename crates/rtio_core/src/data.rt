@@ -3,6 +3,7 @@
 ghost use Rattle.std.specs.Prelude.{◌≡◌, IfOk};
 ghost use Rattle.rtio_core.specs.Entries.{is_config_ok};
 
+use rtio_input::edges_ok;
 use rtio_types::{EdgeList, IntList, Outcome, Reply, Request, Waiting};
 use std::alloc::{AllocError, Global};
 
@@ -138,7 +139,7 @@ const MOST_COST: u64 = 1_000_000;
 
 const MOST_HORIZON: u64 = 134_217_728;
 
-/// Whether the numbers of the settings are in their ranges.
+/// Whether the numbers of the settings are in their ranges, and the edges can be a script.
 pub fn config_ok(config: &Config) -> bool
     ensures { result ≡ is_config_ok config.now }
 {
@@ -146,4 +147,5 @@ pub fn config_ok(config: &Config) -> bool
         && (1..=MOST_DEPTH).contains(&config.depth)
         && config.cost <= MOST_COST
         && (1..=MOST_HORIZON).contains(&config.horizon)
+        && edges_ok(config.edges.items())
 }

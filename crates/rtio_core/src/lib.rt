@@ -2,6 +2,7 @@
 #![tactic(auto)]
 
 mod data;
+mod histories;
 mod one_core;
 mod outputs;
 mod replies;
@@ -9,4 +10,5 @@ mod replies;
 mod tests;
 
 pub use data::{Act, Ask, Config, Entry, StartEnd, StartOf, Tick, config_ok};
+pub use histories::a_name_fetches_what_was_saved_last;
 pub use one_core::Core;

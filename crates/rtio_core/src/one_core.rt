@@ -1,6 +1,8 @@
 // The core.
 
 mod asking;
+mod edges;
+mod recordings;
 mod ticking;
 
 ghost use Rattle.std.specs.Prelude.{◌≡◌, ◌≢◌, ◌↔◌, ◌≤◌, ◌<◌, List, ℕ, [], ◌∷◌, ◌++◌, IfOk, IfErr, OnOk, OnErr, IsTrue, IsSome, Some, None, Ok, Err, option_map};
@@ -13,6 +15,8 @@ ghost use Rattle.rtio_core.specs.Calls.{started, ended, MayEnd};
 
 use crate::outputs::Outputs;
 use crate::{Act, Config, Entry, StartEnd, StartOf};
+use dma_store::Store;
+use rtio_input::Inputs;
 use rtio_log::LogLine;
 use rtio_types::{Event, Outcome, Waiting};
 use std::alloc::{AllocError, Global};
@@ -27,6 +31,8 @@ pub struct Core {
     count: u64,
     pending: Option<Waiting>,
     outputs: Outputs,
+    inputs: Inputs,
+    store: Store,
     session: Option<(u32, u64)>,
     cursor: i64,
     limit: u64,
@@ -45,19 +51,21 @@ impl Model for Core {
 }
 
 impl Core {
-    /// A core at counter 0, with an empty history. It has no inputs yet, so it takes no edges.
+    /// A core at counter 0, with an empty history and no recordings; the edges of its settings are still to come.
     pub fn new(alloc: Global, config: Config) -> Result<Core, AllocError>
-        requires config { IsTrue (is_config_ok config) }
-        requires edges { config.edges ≡ [] }
+        requires { IsTrue (is_config_ok config) }
         ensures { IfOk result (λ core. core ≡ new_core config) }
     {
         let outputs = Outputs::new(alloc, config.lanes, config.depth)?;
+        let inputs = Inputs::new(alloc, config.edges.items())?;
         Ok(Core {
             config,
             entries: Vec::new(alloc),
             count: 0,
             pending: None,
             outputs,
+            inputs,
+            store: Store::new(alloc),
             session: None,
             cursor: 0,
             limit: 0,

@@ -1,6 +1,6 @@
 // The outputs of a core: the lanes, what was put out of them, and the log.
 
-ghost use Rattle.std.specs.Prelude.{◌≡◌, ◌≢◌, ◌≤◌, ◌<◌, ◌+◌, ◌^◌, ℕ, List, [], ◌∷◌, ◌++◌, IfOk, OnOk, OnErr, length, map, vec_len, vec_capacity};
+ghost use Rattle.std.specs.Prelude.{◌≡◌, ◌≢◌, ◌≤◌, ◌<◌, ◌+◌, ◌^◌, ℕ, List, [], ◌∷◌, ◌++◌, IfOk, OnOk, OnErr, drop, length, map, vec_len, vec_capacity};
 ghost use Rattle.rtio_types.specs.Time.{cycle_of};
 ghost use Rattle.sed_lanes.specs.Calls.{wait_of};
 ghost use Rattle.sed_lanes.specs.Judged.{LaneStep, Submit, Clear};
@@ -157,6 +157,22 @@ impl Outputs {
         log_all(&mut cleared, LogKind::Cleared, &mut self.log);
         self.greatest = self.reached;
         Ok(())
+    }
+
+    /// How many events were put out.
+    pub fn count(&self) -> usize
+        ensures { result ≡ length self.now.put_out.items }
+    {
+        let events: &[Event] = &self.put_out;
+        events.len()
+    }
+
+    /// The events that were put out behind the first so many.
+    pub fn put_out_after(&self, count: usize) -> &[Event]
+        requires { count ≤ length self.now.put_out.items }
+        ensures { result.now ≡ drop count self.now.put_out.items }
+    {
+        &self.put_out[count..]
     }
 
     /// Puts out the events of the next cycle, and logs those that collide.

@@ -3,7 +3,7 @@
 ghost use Rattle.std.specs.Prelude.{◌≡◌, ◌≤◌, ◌<◌, ◌+◌, ◌-◌, ◌^◌, ◌↔◌, IsTrue, min, max, pos, not};
 ghost use Rattle.rtio_types.specs.Requests.{request_waiting};
 ghost use Rattle.rtio_types.specs.Time.{counter_reaching, reading};
-ghost use Rattle.rtio_core.specs.Answers.{plain_reply};
+ghost use Rattle.rtio_core.specs.Answers.{is_edge_reply, plain_reply};
 
 use rtio_types::{Reply, Request, Waiting};
 
@@ -48,6 +48,19 @@ pub fn plain_reply(request: &Request, counter: u64) -> Reply
     match request {
         Request::Counter | Request::Reset => Reply::Time(reads(counter)),
         _ => Reply::Done,
+    }
+}
+
+/// An equal reply, of those to a request for an edge, which take no memory.
+pub fn same_edge_reply(reply: &Reply) -> Reply
+    requires { IsTrue (is_edge_reply reply.now) }
+    ensures { result ≡ reply.now }
+{
+    match reply {
+        Reply::Stamp(stamp) => Reply::Stamp(*stamp),
+        Reply::NoEdge => Reply::NoEdge,
+        Reply::Overflow => Reply::Overflow,
+        _ => unreachable!(),
     }
 }
 

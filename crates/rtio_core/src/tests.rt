@@ -1,7 +1,7 @@
 // The worked histories as calls, each call that takes memory with enough of it.
 
-ghost use Rattle.std.specs.Prelude.{IsTrue};
-ghost use Rattle.rtio_core.specs.Reply.{is_served};
+mod edges;
+mod recordings;
 
 use crate::{Act, Ask, Config, Core, Entry, StartEnd, StartOf, Tick, config_ok};
 use rtio_log::{LogKind, LogLine};
@@ -30,15 +30,8 @@ fn event(channel: u8, value: u32, stamp: i64) -> Event {
     }
 }
 
-// A core with an open session of chair 0 and run 0.
-fn started(alloc: Global, lanes: u32, depth: u32, cost: u64, horizon: u64) -> Option<Core> {
-    let config = Config {
-        lanes,
-        depth,
-        cost,
-        horizon,
-        edges: EdgeList::of(Vec::new(alloc)),
-    };
+// A core of these settings with an open session of chair 0 and run 0.
+fn started_by(alloc: Global, config: Config) -> Option<Core> {
     if !config_ok(&config) {
         return None;
     }
@@ -47,9 +40,19 @@ fn started(alloc: Global, lanes: u32, depth: u32, cost: u64, horizon: u64) -> Op
     Some(core)
 }
 
-fn ask(core: &mut Core, alloc: Global, request: Request) -> Option<Ask>
-    requires { IsTrue (is_served request) }
-{
+// One without edges.
+fn started(alloc: Global, lanes: u32, depth: u32, cost: u64, horizon: u64) -> Option<Core> {
+    let config = Config {
+        lanes,
+        depth,
+        cost,
+        horizon,
+        edges: EdgeList::of(Vec::new(alloc)),
+    };
+    started_by(alloc, config)
+}
+
+fn ask(core: &mut Core, alloc: Global, request: Request) -> Option<Ask> {
     let Some((0, _)) = core.session() else {
         return None;
     };

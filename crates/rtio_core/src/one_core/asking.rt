@@ -8,7 +8,7 @@ ghost use Rattle.rtio_types.specs.Requests.{is_well_formed};
 ghost use Rattle.rtio_types.specs.Time.{cycle_of};
 ghost use Rattle.sed_lanes.specs.Verdict.{Undecided};
 ghost use Rattle.rtio_core.specs.Answers.{is_plain, plain_reply};
-ghost use Rattle.rtio_core.specs.Reply.{is_served, reply_to, verdict_at};
+ghost use Rattle.rtio_core.specs.Reply.{reply_to, verdict_at};
 ghost use Rattle.rtio_core.specs.Lawful.{IsOpenFor};
 ghost use Rattle.rtio_core.specs.Calls.{AnswersAsk, NoOtherWaits};
 ghost use Rattle.rtio_core.specs.Errors.{SequenceHasReason, UnderflowHasReason};
@@ -26,7 +26,6 @@ impl Core {
     pub fn ask(&mut self, alloc: Global, who: u32, request: Request) -> Result<Ask, Request>
         requires open { IsOpenFor who self.old.history }
         requires request { IsTrue (is_well_formed request) }
-        requires served { IsTrue (is_served request) }
         ensures answer { IfOk result (λ answer. AnswersAsk self.old who request answer self.new) }
         ensures back { IfErr result (λ back. back ≡ request) }
         ensures err { OnErr result (self.new ≡ self.old) }
@@ -47,11 +46,13 @@ impl Core {
             Request::Out(event) => self.ask_output(who, event),
             Request::Reset => self.reset(alloc, who),
             Request::Wait { until } => self.ask_wait(who, until),
-            request => self.answer_plain(who, request),
+            Request::Edge { channel, up_to } => self.ask_edge(who, channel, up_to),
+            Request::Counter | Request::Data { .. } => self.answer_plain(who, request),
+            request => self.ask_store(alloc, who, request),
         }
     }
 
-    /// Answers a request that is decided, and that leaves the lanes alone.
+    /// Answers a reading, a wait or a dataset, once it is decided.
     fn answer_plain(&mut self, who: u32, request: Request) -> Result<Ask, Request>
         requires open { IsOpenFor who self.old.history }
         requires request { IsTrue (is_well_formed request) }
@@ -169,7 +170,7 @@ impl Core {
         Ok(Ask::Reply(Reply::Done))
     }
 
-    /// Clears what isn't put out yet.
+    /// Clears what isn't put out yet, and what wasn't read yet.
     fn reset(&mut self, alloc: Global, who: u32) -> Result<Ask, Request>
         requires open { IsOpenFor who self.old.history }
         requires waiting { NoOtherWaits self.old.waiting kind.Reset }
@@ -181,6 +182,7 @@ impl Core {
         if self.entries.reserve(1).is_err() || self.outputs.clear(alloc, at).is_err() {
             return Err(Request::Reset);
         }
+        self.inputs.reset();
         let act = Act::Asked {
             request: Request::Reset,
             reply: Reply::Time(reads(at)),

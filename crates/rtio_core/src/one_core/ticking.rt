@@ -1,7 +1,7 @@
 // The counter of a core.
 
 ghost use Rattle.std.specs.Prelude.{◌≡◌, ◌↔◌, ◌≤◌, ◌<◌, ◌+◌, IsTrue, Some, None, not};
-ghost use Rattle.rtio_types.specs.Requests.{request_waiting};
+ghost use Rattle.rtio_types.specs.Requests.{is_well_formed, request_waiting};
 ghost use Rattle.rtio_core.specs.Reply.{is_decided};
 ghost use Rattle.rtio_core.specs.Core.{core_top};
 ghost use Rattle.rtio_core.specs.Calls.{AnswersTick, has_to_wait, told_limit};
@@ -28,8 +28,11 @@ impl Core {
                 limit: self.told_limit(),
             };
         }
+        let before = self.outputs.count();
         self.outputs.advance(self.count);
         self.count += 1;
+        let kept = self.outputs.put_out_after(before);
+        self.inputs.cycle(self.count, kept);
         Tick::Went
     }
 
@@ -63,12 +66,13 @@ impl Core {
 
     /// Whether a request isn't decided at the counter.
     fn is_undecided(&self, waiting: Waiting) -> bool
+        requires { IsTrue (is_well_formed (request_waiting waiting)) }
         ensures { result ≡ not (is_decided self.now.config self.now.history (request_waiting waiting) self.now.counter) }
     {
         match waiting {
             Waiting::Out(event) => self.outputs.lanes.wait(self.count, &event).is_some(),
             Waiting::Wait { until } => reads(self.count) < until,
-            Waiting::Edge { .. } => true,
+            Waiting::Edge { channel, up_to } => !self.inputs.is_decided(self.count, channel, up_to),
         }
     }
 
