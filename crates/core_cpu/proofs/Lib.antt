@@ -1,0 +1,12 @@
+pub mod Entering
+pub mod Follow
+pub mod FrameCount
+pub mod Here
+pub mod Nearness
+pub mod Pieces
+pub mod Raising
+pub mod Room
+pub mod Settling
+pub mod Stops
+pub mod Turning
+pub mod Wrapping

@@ -1,0 +1,93 @@
+use Rattle.std.proofs.Common.{◌≡◌, ◌++◌, true, None, Some, refl, sym, ◌∙◌, ap, subst}
+use Rattle.std.specs.Prelude.{is_some, option_to_list}
+use Rattle.core_cpu.specs.Moments.{is_ready}
+use Rattle.core_cpu.specs.Standing.{Stands}
+use Rattle.core_cpu.proofs.Stops.{stands_same, stands_stepped, nothing_asked, asks_at, ended_at}
+use Rattle.core_cpu.proofs.cpu.Cpu.advance.Goals as goal
+
+pub returns-in-Some-clause-stops : goal.returns-in-Some-clause-stops
+returns-in-Some-clause-stops c =
+    λ start asked replies stands.
+    asks_at
+    start
+    asked
+    c.in-Some.request
+    replies
+    c.play_on.new.self
+    c.in-Some.ensures.asks
+    (c.in-Some.ensures.waits refl)
+    (stands_same start asked replies c.args.self.now c.play_on.new.self (Some c.in-Some.request) c.in-Some.ensures.code c.in-Some.ensures.goes stands)
+
+pub returns-in-Some-2-clause-stops : goal.returns-in-Some-2-clause-stops
+returns-in-Some-2-clause-stops c =
+    let ready : is_ready c.loop-alloc.self.phase ≡ true = sym c.ready.ensures ∙ c.loop-alloc-test.true in
+    let some : is_some c.in_ok-request.field-0 ≡ true = ap is_some c.in-Some-2.is in
+    λ start asked replies stands.
+    asks_at
+    start
+    asked
+    c.in-Some-2.request
+    replies
+    c.step.new.self
+    (c.in_ok-request.ensures.asks ∙ some)
+    (c.in_ok-request.ensures.waits some)
+    (subst
+    (λ asks. Stands start (asked ++ option_to_list asks) replies c.step.new.self)
+    c.in-Some-2.is
+    (stands_stepped
+    start
+    asked
+    replies
+    c.loop-alloc.self
+    c.step.new.self
+    c.in_ok-request.field-0
+    ready
+    c.step.ensures.code
+    c.in_ok-request.ensures.goes
+    (c.loop-alloc.invariant.stands start asked replies stands)))
+
+pub loop-alloc-smaller : goal.loop-alloc-smaller
+loop-alloc-smaller c = c.in_ok-request.ensures.nearer
+
+pub loop-alloc-preserved : goal.loop-alloc-preserved
+loop-alloc-preserved c =
+    let ready : is_ready c.loop-alloc.self.phase ≡ true = sym c.ready.ensures ∙ c.loop-alloc-test.true in
+    let none : c.in_ok-request.field-0 ≡ None = c.in_default-2.is in
+    record {
+      code = c.step.ensures.code ∙ c.loop-alloc.invariant.code;
+      stands = λ start asked replies stands.
+          nothing_asked
+          start
+          asked
+          replies
+          c.step.new.self
+          (subst
+          (λ asks. Stands start (asked ++ option_to_list asks) replies c.step.new.self)
+          none
+          (stands_stepped
+          start
+          asked
+          replies
+          c.loop-alloc.self
+          c.step.new.self
+          c.in_ok-request.field-0
+          ready
+          c.step.ensures.code
+          c.in_ok-request.ensures.goes
+          (c.loop-alloc.invariant.stands start asked replies stands)));
+      asking = c.in_ok-request.ensures.asks ∙ ap is_some none;
+      playing = c.in_ok-request.ensures.plays;
+    }
+
+pub returns-clause-stops : goal.returns-clause-stops
+returns-clause-stops c =
+    λ start asked replies stands.
+    ended_at
+    start
+    asked
+    replies
+    c.loop-alloc.self
+    c.outcome.result
+    c.outcome.ensures.over
+    c.outcome.ensures.proper
+    (c.loop-alloc.invariant.stands start asked replies stands)

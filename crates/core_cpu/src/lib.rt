@@ -1,0 +1,28 @@
+//! The core's processor: it runs accepted code from request to request.
+#![tactic(auto)]
+
+mod answer;
+mod arithmetic;
+mod course;
+mod cpu;
+mod first;
+mod frames;
+mod handlers;
+mod layout;
+mod numbers;
+mod phase;
+mod playback;
+mod playing;
+mod recordings;
+mod run;
+mod slots;
+mod stack;
+mod state;
+mod step;
+mod stop;
+#[cfg(test)]
+mod tests;
+mod values;
+
+pub use cpu::Cpu;
+pub use stop::Stop;
