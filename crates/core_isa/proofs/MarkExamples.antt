@@ -95,6 +95,34 @@ operand_marks :
     (true ∷ false ∷ true ∷ false ∷ false ∷ true ∷ false ∷ false ∷ true ∷ false ∷ [])
 operand_marks = refl
 
+-- the same of what takes nothing, and what takes two values for one: slots and arrays, names, functions, and the widths
+-- of shifts
+free_marks :
+    map
+    (λ i. right_in_main (line 0 0 0 i ∷ line 0 0 0 I.Return ∷ []))
+    (I.DataList 0 2 2 ∷ I.DataList 0 2 3 ∷ I.DataList 1 2 2 ∷ I.Erase 0 ∷ I.Erase 1 ∷ I.Play 1 ∷ I.Call 0 ∷ I.Call 1 ∷ [])
+    ≡ map (λ right. right ∷ true ∷ []) (true ∷ false ∷ false ∷ true ∷ false ∷ false ∷ true ∷ false ∷ [])
+free_marks = refl
+
+two_marks :
+    map
+    (λ i. right_in_main (line 0 0 0 I.Now ∷ line 1 0 0 I.Now ∷ line 2 0 0 i ∷ line 1 0 0 (I.Store 0) ∷ line 0 0 0 I.Return ∷ []))
+    (I.Shl 32 ∷ I.Shl 64 ∷ I.Shl 16 ∷ I.Shr 64 ∷ I.Shr 63 ∷ I.Add ∷ [])
+    ≡ map (λ right. true ∷ true ∷ right ∷ true ∷ true ∷ []) (true ∷ true ∷ false ∷ true ∷ false ∷ true ∷ [])
+two_marks = refl
+
+-- an address and data go to a raw output, and an input alone has edges
+channel_marks :
+    (map
+    (λ i. right_in_main (line 0 0 0 I.Now ∷ line 1 0 0 I.Now ∷ line 2 0 0 i ∷ line 0 0 0 I.Return ∷ []))
+    (I.OutTo 16 ∷ I.OutTo 23 ∷ I.OutTo 15 ∷ I.OutTo 24 ∷ [])
+    ≡ map (λ right. true ∷ true ∷ right ∷ true ∷ []) (true ∷ true ∷ false ∷ false ∷ []))
+    × (map
+    (λ i. right_in_main (line 0 0 0 I.Now ∷ line 1 0 0 i ∷ line 1 0 0 (I.Store 0) ∷ line 0 0 0 I.Return ∷ []))
+    (I.Edge 24 ∷ I.Edge 31 ∷ I.Edge 23 ∷ I.Edge 32 ∷ [])
+    ≡ map (λ right. true ∷ right ∷ true ∷ true ∷ []) (true ∷ true ∷ false ∷ false ∷ []))
+channel_marks = (refl, refl)
+
 -- a plain function calls plain ones only, and asks for nothing but outputs
 abbrev plain_at : ℕ → CodeFunction
 plain_at first = record { first = first; params = 0; slots = 0; value = false; plain = true }
@@ -117,7 +145,20 @@ plain_marks :
     (plain_at 0 ∷ function_at 3 0 ∷ [])
     (line 0 0 0 (I.Call 1) ∷ line 0 0 0 I.Counter ∷ line 1 0 0 I.Raise ∷ line 0 0 0 I.Return ∷ []))
     ≡ false ∷ false ∷ true ∷ true ∷ [])
-plain_marks = (refl, refl)
+    × (right_places
+    (marked
+    (function_at 0 0 ∷ function_at 4 0 ∷ plain_at 5 ∷ [])
+    (line 0 0 0 (I.Record 0)
+    ∷ line 0 0 1 (I.Call 1)
+    ∷ line 0 0 1 I.Save
+    ∷ line 0 0 0 I.Return
+    ∷ line 0 0 0 I.Return
+    ∷ line 0 0 1 I.Save
+    ∷ line 0 0 0 I.Return
+    ∷ []))
+    ≡ true ∷ false ∷ true ∷ true ∷ true ∷ false ∷ true ∷ [])
+    × (right_in_main (line 0 0 0 (I.Record 0) ∷ line 0 0 1 (I.Record 0) ∷ line 0 0 1 I.Save ∷ line 0 0 0 I.Return ∷ []) ≡ true ∷ false ∷ true ∷ true ∷ [])
+plain_marks = (refl, refl, refl, refl)
 
 -- code whose run takes unit after unit is marked
 abbrev endless : Code

@@ -124,13 +124,13 @@ is_live i = false
 abbrev pub LiveIsAllowed : CodeFunction → Mark → Instr → Type 0
 LiveIsAllowed f mark i = IsTrue (is_live i) → (mark.rec ≡ 0) × (f.plain ≡ false)
 
--- an instruction that takes a unit before anything else
+-- an instruction that takes a unit whatever it does besides
 abbrev pub is_turn_or_edge : Instr → Bool
 is_turn_or_edge I.Turn = true
 is_turn_or_edge (I.Edge channel) = true
 is_turn_or_edge i = false
 
--- the instruction at a place takes a unit before anything else
+-- the instruction at a place takes a unit
 abbrev pub takes_unit_first : Option CodeLine → Bool
 takes_unit_first None = false
 takes_unit_first (Some line) = is_turn_or_edge line.instr

@@ -16,7 +16,9 @@ pub struct Mark {
 /// An instruction with its mark.
 #[derive(Clone, Copy, Debug, PartialEq, Eq)]
 pub struct CodeLine {
+    /// What is done.
     pub instr: Instr,
+    /// What the code claims of the frame before it.
     pub mark: Mark,
 }
 
