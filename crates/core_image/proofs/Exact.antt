@@ -1,12 +1,9 @@
 -- What is read is spelled so, and what is spelled so is read: one reading after another.
-use Rattle.std.proofs.Common.{◌≡◌, ℕ, zero, suc, ◌<◌, Bool, true, false, cond, List, [], ◌∷◌, ◌++◌, get_or, length, Result, Ok, Err, refl, sym, ap, subst, ◌∙◌, append_assoc, arith}
+use Rattle.std.proofs.Common.{◌≡◌, ℕ, zero, suc, Bool, true, false, cond, List, [], ◌∷◌, ◌++◌, length, Result, Ok, Err, refl, sym, ap, subst, ◌∙◌, append_assoc, arith}
 use Rattle.std.specs.List.{flat_map, AllByRecursion}
 use Rattle.std.proofs.lemmas.List.{append-nil}
-use Rattle.core_image.specs.Fields.{Bytes}
+use Rattle.core_image.specs.Fields.{Bytes, AreBytes}
 use Rattle.core_image.specs.Reading.{Read, ◌>>=◌, times_at}
-
-abbrev pub AreBytes : Bytes → Type 0
-AreBytes bytes = (i : ℕ) → get_or bytes i 0 < 256
 
 -- some bytes are these, and then a rest
 pub record Takes (bytes text rest : Bytes) : Type 0 where

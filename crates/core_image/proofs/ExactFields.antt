@@ -9,10 +9,10 @@ use Rattle.std.proofs.lemmas.Nat.{le_bytes_2, le_bytes_4, le_bytes_8, from_le_by
 use Rattle.std.proofs.lemmas.Slice.Eq.{bytes_eq-Decides}
 use Rattle.core_isa.specs.declared.code.CodeFunction.{CodeFunction}
 use Rattle.core_isa.specs.declared.code.Mark.{Mark}
-use Rattle.core_image.specs.Fields.{Bytes, is_between}
+use Rattle.core_image.specs.Fields.{Bytes, AreBytes, is_between}
 use Rattle.core_image.specs.Reading.{byte_at, number_at, bytes_at, magic_at, name_at, function_at, mark_at}
 use Rattle.core_image.specs.Spelling.{magic_bytes, name_bytes, function_bytes, flags_of}
-use Rattle.core_image.proofs.Exact.{AreBytes, Takes, IsSpelled, given_exact, then_exact, spelled_exact, exact_spelled, found, same_found}
+use Rattle.core_image.proofs.Exact.{Takes, IsSpelled, given_exact, then_exact, spelled_exact, exact_spelled, found, same_found}
 use Rattle.rtio_types.specs.Names.{is_word_byte, is_name}
 
 -- what a test let through

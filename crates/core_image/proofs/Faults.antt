@@ -78,10 +78,10 @@ pub no_fault : {A : Type 0} (format : Format A) (bytes : Bytes) (x : A) (place :
 no_fault format bytes x place e h = let a = stop format bytes place h in whole_stops (read format bytes) x a.rest e a.there
 
 -- some bytes are cut into fields that stand rightly and a rest
-record Cut {A : Type 0} (format : Format A) (bytes rest : Bytes) : Type 0 where
-  fields : List Bytes
-  whole : bytes ≡ concat fields ++ rest
-  right : StandRightly format fields
+pub record Cut {A : Type 0} (format : Format A) (bytes rest : Bytes) : Type 0 where
+  pub fields : List Bytes
+  pub whole : bytes ≡ concat fields ++ rest
+  pub right : StandRightly format fields
 
 one_more : {A : Type 0} (width : ℕ) (test : Bytes → Bool) (next : Bytes → Format A) (bytes rest : Bytes) → (nat_le width (length bytes) && test (take width bytes)) ≡ true
     → Cut (next (take width bytes)) (drop width bytes) rest → Cut (field width test next) bytes rest
@@ -108,7 +108,7 @@ fails_cut {A = A} (field width test next) bytes rest e =
           (record { fields = []; whole = same; right = tt }, subst (λ (r : Bytes). (length r < width) ⊎ (¬ IsTrue (test (take width r)))) same (why width (length bytes) (test (take width bytes)) refused))
     ]
 
-ends_cut : {A : Type 0} (format : Format A) (bytes rest : Bytes) (x : A) → read format bytes ≡ Ok (x, rest) → (cut : Cut format bytes rest) × (behind format cut.fields ≡ give x)
+pub ends_cut : {A : Type 0} (format : Format A) (bytes rest : Bytes) (x : A) → read format bytes ≡ Ok (x, rest) → (cut : Cut format bytes rest) × (behind format cut.fields ≡ give x)
 unfolding one_more
 ends_cut (give y) bytes rest x e =
     let same = same_found y x bytes rest e in

@@ -7,6 +7,7 @@ pub mod Faults
 pub mod Images
 pub mod InstrFits
 pub mod Loop
+pub mod Made
 pub mod SameCode
 pub mod Sizes
 pub mod Spots

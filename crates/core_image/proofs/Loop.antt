@@ -3,9 +3,7 @@ use Rattle.std.proofs.Common.{◌≡◌, ℕ, suc, ◌+◌, ◌-◌, ◌<◌, �
 use Rattle.std.proofs.lemmas.List.{append-nil}
 use Rattle.core_isa.specs.declared.code.CodeFunction.{CodeFunction}
 use Rattle.core_image.specs.Fields.{Bytes}
-use Rattle.core_image.specs.Reading.{Read, ◌>>=◌, Fails, times_at, function_at, functions_at}
-use Rattle.core_image.specs.declared.reader.ReadEnd.{ReadEnd}
-use Rattle.core_image.specs.declared.reader.ReadEnd.TheVariants.{Memory, Wrong}
+use Rattle.core_image.specs.Reading.{Read, ◌>>=◌, times_at, function_at, functions_at}
 
 -- what is read behind some values that were read before
 abbrev pub with_front : {A : Type 0} → List A → Read (List A) → Read (List A)
@@ -14,6 +12,18 @@ with_front front found = found >>= λ x. Ok (front ++ x.0, x.1)
 joined : {A : Type 0} (front : List A) (x : A) (found : Read (List A)) → with_front front (found >>= λ x'. Ok (x ∷ x'.0, x'.1)) ≡ with_front (front ++ x ∷ []) found
 joined front x (Ok (xs, rest)) = ap (λ (ys : List _). Ok (ys, rest)) (simp append_assoc)
 joined front x (Err rest) = refl
+
+-- what is left to read is all that is to be read but for some values that were read before and not kept
+abbrev pub IsLeft : {A : Type 0} → (found total : Read (List A)) → Type 0
+IsLeft {A = A} found total = (front : List A) × (with_front front found ≡ total)
+
+none_before : {A : Type 0} (found : Read (List A)) → with_front [] found ≡ found
+none_before (Ok x) = refl
+none_before (Err rest) = refl
+
+-- at first all is left
+pub all_left : {A : Type 0} (found : Read (List A)) → IsLeft found found
+all_left found = ([], none_before found)
 
 done : {A : Type 0} (front : List A) (rest : Bytes) → with_front front (Ok ([], rest)) ≡ Ok (front, rest)
 done front rest = ap (λ (ys : List _). Ok (ys, rest)) (append-nil front)
@@ -29,11 +39,10 @@ times_step one front count i bytes rest x total lt found so_far =
     sym one_more ∙ so_far
 
 -- one more isn't
-pub times_fails : {A : Type 0} (one : Bytes → Read A) (e : ReadEnd) (front : List A) (count i : ℕ) (bytes rest : Bytes) (total : Read (List A)) → i < count
-    → Fails e rest (one bytes) → with_front front (times_at one (count - i) bytes) ≡ total → Fails e rest total
+pub times_fails : {A : Type 0} (one : Bytes → Read A) (front : List A) (count i : ℕ) (bytes rest : Bytes) (total : Read (List A)) → i < count
+    → one bytes ≡ Err rest → with_front front (times_at one (count - i) bytes) ≡ total → total ≡ Err rest
 unfolding times_at
-times_fails one Memory front count i bytes rest total lt found so_far = tt
-times_fails one Wrong front count i bytes rest total lt found so_far =
+times_fails one front count i bytes rest total lt found so_far =
     let k : count - i ≡ suc (count - (i + 1)) = omega arith in
     let none : with_front front (times_at one (count - i) bytes) ≡ Err rest = rw (k, found) refl in
     sym so_far ∙ none
@@ -57,11 +66,10 @@ functions_step front count i least most lines bytes rest f total lt found so_far
     let one_more : with_front front (functions_at (count - i) least most lines bytes) ≡ with_front (front ++ f ∷ []) (functions_at (count - (i + 1)) (f.first + 1) (lines - 1) lines rest) = rw (k, found) (joined front f (functions_at (count - (i + 1)) (f.first + 1) (lines - 1) lines rest)) in
     sym one_more ∙ so_far
 
-pub functions_fail : (e : ReadEnd) (front : List CodeFunction) (count i least most lines : ℕ) (bytes rest : Bytes) (total : Read (List CodeFunction)) → i < count
-    → Fails e rest (function_at least most bytes) → with_front front (functions_at (count - i) least most lines bytes) ≡ total → Fails e rest total
+pub functions_fail : (front : List CodeFunction) (count i least most lines : ℕ) (bytes rest : Bytes) (total : Read (List CodeFunction)) → i < count
+    → function_at least most bytes ≡ Err rest → with_front front (functions_at (count - i) least most lines bytes) ≡ total → total ≡ Err rest
 unfolding functions_at
-functions_fail Memory front count i least most lines bytes rest total lt found so_far = tt
-functions_fail Wrong front count i least most lines bytes rest total lt found so_far =
+functions_fail front count i least most lines bytes rest total lt found so_far =
     let k : count - i ≡ suc (count - (i + 1)) = omega arith in
     let none : with_front front (functions_at (count - i) least most lines bytes) ≡ Err rest = rw (k, found) refl in
     sym so_far ∙ none

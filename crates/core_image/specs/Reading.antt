@@ -10,6 +10,7 @@ use Rattle.core_image.specs.declared.operands.Shape.{Shape}
 use Rattle.core_image.specs.declared.operands.Shape.TheVariants as S
 use Rattle.core_image.specs.declared.reader.ReadEnd.{ReadEnd}
 use Rattle.core_image.specs.declared.reader.ReadEnd.TheVariants.{Memory, Wrong}
+use Rattle.core_image.specs.declared.reader.WrongField.{WrongField}
 use Rattle.core_isa.specs.declared.code.CodeFunction.{CodeFunction}
 use Rattle.core_isa.specs.declared.code.Mark.{Mark}
 use Rattle.rtio_types.specs.Names.{is_word_byte}
@@ -31,7 +32,17 @@ read (field width test next) bytes =
     if nat_le width (length bytes) && test (take width bytes) then read (next (take width bytes)) (drop width bytes)
     else Err bytes
 
--- what a function returned and left is what reading gives, unless memory ran out
+-- what a function returned and left is what reading gives
+abbrev pub Reads : {X Y : Type 0} → (X → Y) → Result X WrongField → (rest : Bytes) → Read Y → Type 0
+Reads view (Ok x) rest found = found ≡ Ok (view x, rest)
+Reads view (Err e) rest found = found ≡ Err rest
+
+-- the same of a function that keeps nothing: what it left is what reading leaves
+abbrev pub Passes : {X Y : Type 0} → Result X WrongField → (rest : Bytes) → Read Y → Type 0
+Passes {Y = Y} (Ok x) rest found = (value : Y) × (found ≡ Ok (value, rest))
+Passes (Err e) rest found = found ≡ Err rest
+
+-- the same of a function that keeps what it reads, unless memory ran out
 abbrev pub Fails : {Y : Type 0} → ReadEnd → (rest : Bytes) → Read Y → Type 0
 Fails Memory rest found = Unit {0}
 Fails Wrong rest found = found ≡ Err rest

@@ -1,10 +1,11 @@
 // What holds of every image, and of all accepted code.
 
-ghost use Rattle.std.specs.Prelude.{◌≡◌, ◌≤◌, ℕ, ◌++◌, length};
+ghost use Rattle.std.specs.Prelude.{◌≡◌, ◌≤◌, ℕ, ◌⊎◌, ◌++◌, length};
 ghost use Rattle.core_isa.specs.Marks.{Marked};
 ghost use Rattle.core_isa.specs.Sound.{NeverStuck};
 ghost use Rattle.core_isa.specs.declared.code.Code.{Code};
-ghost use Rattle.core_image.specs.Fields.{Bytes, HasFault};
+ghost use Rattle.core_image.specs.Answers.{IsImage, IsFaulty};
+ghost use Rattle.core_image.specs.Fields.{Bytes, AreBytes, HasFault};
 ghost use Rattle.core_image.specs.Ranges.{IsInRange};
 ghost use Rattle.core_image.specs.Spelling.{image_of};
 ghost use Rattle.core_image.specs.Table.{image};
@@ -25,9 +26,19 @@ pub fn no_fault_in_an_image()
     ensures { (code : Code) (place : ℕ) → IsInRange code → HasFault image (image_of code) place → ⊥ }
 {}
 
+/// Bytes are an image or have a first wrong field.
+pub fn image_or_fault()
+    ensures { (bytes : Bytes) → AreBytes bytes → IsImage bytes ⊎ IsFaulty bytes }
+{}
+
 /// An image has at most 8,388,608 bytes.
 pub fn images_are_small()
     ensures { (code : Code) → IsInRange code → length (image_of code) ≤ 8388608 }
+{}
+
+/// A first wrong field begins at 8,388,608 or before.
+pub fn faults_are_near()
+    ensures { (bytes : Bytes) (place : ℕ) → HasFault image bytes place → place ≤ 8388608 }
 {}
 
 /// No run of marked code lacks an operand, a place, a slot, a handler or a recording: not of any function, with as many

@@ -7,6 +7,7 @@ mod encoding;
 mod end;
 mod laws;
 mod operands;
+mod passing;
 mod reader;
 mod spot;
 #[cfg(test)]
@@ -17,7 +18,7 @@ pub use decoding::decode;
 pub use encoding::encode;
 pub use end::ImageEnd;
 pub use laws::{
-    images_are_small, marked_code_in_range_is_never_stuck, no_fault_in_an_image, one_first_fault,
-    one_image_each,
+    faults_are_near, image_or_fault, images_are_small, marked_code_in_range_is_never_stuck,
+    no_fault_in_an_image, one_first_fault, one_image_each,
 };
 pub use verifying::{BadCode, Verified, verify};

@@ -2,9 +2,9 @@
 
 ghost use Rattle.std.specs.Prelude.{◌≡◌, ◌≤◌, IfOk};
 ghost use Rattle.core_image.specs.Operands.{op_of, operands_of, shape_of, Operands, nothing, one_byte, short, two_shorts, place};
-ghost use Rattle.core_image.specs.Reading.{Gives, operands_at};
+ghost use Rattle.core_image.specs.Reading.{Reads, operands_at};
 
-use crate::reader::{ReadEnd, Reader};
+use crate::reader::{Reader, WrongField};
 use core_isa::Instr;
 
 /// What operands an instruction has.
@@ -141,10 +141,10 @@ fn with_nothing(op: u8) -> Instr
 impl Reader<'_> {
     /// The operands behind an instruction's number, and so the instruction.
     #[tactic(auto, unfolding(crate::specs::Reading::operands_at))]
-    pub fn operands(&mut self, op: u8) -> Result<Instr, ReadEnd>
+    pub fn operands(&mut self, op: u8) -> Result<Instr, WrongField>
         requires { op ≤ 50 }
         ensures op { IfOk result (λ instr. op_of instr ≡ op) }
-        ensures operands { Gives operands_of result self.new.rest.now (operands_at (shape_of op) self.old.rest.now) }
+        ensures operands { Reads operands_of result self.new.rest.now (operands_at (shape_of op) self.old.rest.now) }
     {
         match shape_at(op) {
             Shape::Nothing => Ok(with_nothing(op)),

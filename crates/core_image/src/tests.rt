@@ -276,3 +276,15 @@ fn the_least_bad_place_is_named(rt: HostRuntime) -> Result<(), Fail> {
     }
     Ok(())
 }
+
+#[test]
+fn one_function_without_slots_is_refused_at_its_place(rt: HostRuntime) -> Result<(), Fail> {
+    // A Return with one operand.
+    let mut one_operand = RETURN;
+    one_operand[23] = 1;
+    expect_bad(&rt, rt.alloc(), &one_operand, Some(0))?;
+    // A Jump behind the last place.
+    let mut jump = Vec::from_slice(rt.alloc(), &RETURN[..22])?;
+    jump.extend_from_slice(&[0x19, 0, 0, 0, 1, 0, 0, 0])?;
+    expect_bad(&rt, rt.alloc(), &jump, Some(0))
+}

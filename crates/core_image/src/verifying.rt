@@ -11,6 +11,7 @@ use std::marker::Model;
 /// The least place of code that isn't accepted.
 #[derive(Clone, Copy, Debug, PartialEq, Eq)]
 pub struct BadCode {
+    /// It counts the code's lines from 0.
     pub place: u32,
 }
 

@@ -1,4 +1,4 @@
-use Rattle.core_image.proofs.Sizes.{image_most}
+use Rattle.core_image.proofs.Images.{image_most}
 use Rattle.core_image.proofs.laws.images_are_small.Goals as goal
 
 pub returns : goal.returns

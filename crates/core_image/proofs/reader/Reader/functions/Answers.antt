@@ -6,7 +6,7 @@ use Rattle.core_image.proofs.reader.Reader.functions.Goals as goal
 pub returns-in_err-function : goal.returns-in_err-function
 returns-in_err-function c =
     let p = err_from_is_err_and c.from_residual.result c.from_residual.ensures.1 in
-    rw (p.1, p.2) (functions_fail c.in_err-function.field-0.0 c.loop.functions.items _ _ _ _ _ _ _ _ c.loop-test.true c.in_err-function.ensures.read c.loop.invariant.told)
+    rw (p.1, p.2) (functions_fail c.loop.functions.items _ _ _ _ _ _ _ _ c.loop-test.true c.in_err-function.ensures.read c.loop.invariant.told)
 
 pub loop-preserved : goal.loop-preserved
 loop-preserved c =

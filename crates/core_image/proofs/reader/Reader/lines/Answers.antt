@@ -9,7 +9,7 @@ use Rattle.core_image.proofs.reader.Reader.lines.Goals as goal
 pub returns-in_err-line : goal.returns-in_err-line
 returns-in_err-line c =
     let p = err_from_is_err_and c.from_residual.result c.from_residual.ensures.1 in
-    rw (p.1, p.2) (times_fails line_at c.in_err-line.field-0.0 (map parts_of_line c.loop.lines.items) _ _ _ _ _ c.loop-test.true c.in_err-line.ensures c.loop.invariant)
+    rw (p.1, p.2) (times_fails line_at (map parts_of_line c.loop.lines.items) _ _ _ _ _ c.loop-test.true c.in_err-line.ensures c.loop.invariant)
 
 pub loop-preserved : goal.loop-preserved
 loop-preserved c =

@@ -7,7 +7,7 @@ use Rattle.core_image.proofs.reader.Reader.names.Goals as goal
 pub returns-in_err-name : goal.returns-in_err-name
 returns-in_err-name c =
     let p = err_from_is_err_and c.from_residual.result c.from_residual.ensures.1 in
-    rw (p.1, p.2) (times_fails name_at c.in_err-name.field-0.0 c.loop.names.items _ _ _ _ _ c.loop-test.true c.in_err-name.ensures c.loop.invariant)
+    rw (p.1, p.2) (times_fails name_at c.loop.names.items _ _ _ _ _ c.loop-test.true c.in_err-name.ensures c.loop.invariant)
 
 pub loop-preserved : goal.loop-preserved
 loop-preserved c =
