@@ -1,5 +1,5 @@
 -- At which point of which run a CPU stands.
-use Rattle.std.specs.Prelude.{◌≡◌, ℕ, ◌<◌, ◌^◌, List, [], ◌∷◌, ◌++◌, length, ℤ, Bool, true, false, IsTrue, is_some, slice_get, Some}
+use Rattle.std.specs.Prelude.{◌≡◌, ℕ, ◌<◌, ◌≤◌, ◌^◌, List, [], ◌∷◌, ◌++◌, length, ℤ, Bool, true, false, IsTrue, is_some, slice_get, Some}
 use Rattle.rtio_types.specs.Requests.{is_well_formed}
 use Rattle.rtio_types.specs.declared.outcome.Outcome.{Outcome}
 use Rattle.rtio_types.specs.declared.request.Reply.{Reply}
@@ -77,17 +77,17 @@ phase_fits (Ask request) (Asking purpose) = true
 phase_fits (Ended outcome) (Over now) = true
 phase_fits stop phase = false
 
--- an instruction that takes memory: a save, a list for a dataset, and an output where a recording is open
+-- an instruction that takes memory: a list for a dataset, and an output where a recording is open
 abbrev pub takes_memory : (recording : Bool) → Instr → Bool
-takes_memory recording I.Save = true
 takes_memory recording (I.DataList n s count) = true
 takes_memory recording (I.Out channel address) = recording
 takes_memory recording (I.OutTo channel) = recording
 takes_memory recording i = false
 
--- the moment stands before an instruction that takes memory
+-- the moment stands before an instruction that takes memory and has a unit left
 pub record WantsMemory (moment : Moment) : Type 0 where
   pub ready : moment.phase ≡ Ready
   pub line : CodeLine
   pub found : slice_get moment.code.lines moment.machine.top.place ≡ Some line
   pub takes : IsTrue (takes_memory (is_some moment.machine.recording) line.instr)
+  pub units : 1 ≤ moment.machine.units

@@ -74,6 +74,8 @@ impl<'a> Cpu<'a> {
             IfOk result (λ cpu. cpu ≡ record { code = code.now; machine = booted entry args.now cursor units []; phase = Ready }) }
         ensures begins { IfOk result (λ cpu.
             Stands (record { function = function; args = args.now; cursor = cursor; units = units }) [] [] cpu) }
+        ensures code { IfOk result (λ cpu. cpu.code ≡ code.now) }
+        ensures phase { IfOk result (λ cpu. is_asking cpu.phase ≡ false) }
     {
         let source = code.code();
         let entry = function_of(source, function as usize);
@@ -85,9 +87,8 @@ impl<'a> Cpu<'a> {
         })
     }
 
-    /// Goes on to the next request or the end. It takes memory only for an output of a recording, for saving one, and
-    /// for a list of a dataset; where there is none, it stands before that instruction, which begins again with the
-    /// next call.
+    /// Goes on to the next request or the end. It takes memory only for an output while a recording is open and for a
+    /// list of a dataset; where there is none, it stands before that instruction, which begins again with the next call.
     pub fn advance(&mut self, alloc: Global) -> Result<Stop, AllocError>
         requires { is_asking self.old.phase ≡ false }
         ensures code { self.new.code ≡ self.old.code }
@@ -96,7 +97,7 @@ impl<'a> Cpu<'a> {
             Stands start asked replies self.old →
             IfOk result (λ stop. StopsAt start asked replies self.new stop) }
         ensures phase { IfOk result (λ stop. IsTrue (phase_fits stop self.new.phase)) }
-        // Without memory it stands before an instruction that takes some, in the same run.
+        // Without memory it stands before an instruction that takes some and has a unit left, in the same run.
         ensures memory { OnErr result (WantsMemory self.new) }
         ensures before { (start : Start) (asked : List Request) (replies : List Reply) →
             Stands start asked replies self.old → OnErr result (Stands start asked replies self.new) }

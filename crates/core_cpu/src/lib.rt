@@ -1,4 +1,4 @@
-//! The core's processor: it runs accepted code from request to request.
+//! The core's processor: it runs accepted code from request to request. It is this project's own.
 #![tactic(auto)]
 
 mod answer;

@@ -1,6 +1,6 @@
 // The instruction at hand.
 
-ghost use Rattle.std.specs.Prelude.{◌≡◌, false, true, is_some, IfOk, IsTrue, OnErr};
+ghost use Rattle.std.specs.Prelude.{◌≡◌, ◌≤◌, false, true, is_some, IfOk, IsTrue, OnErr};
 ghost use Rattle.core_isa.specs.Runs.{counted};
 ghost use Rattle.core_isa.specs.Steps.{act};
 ghost use Rattle.core_cpu.specs.Courses.{CanRun, TurnsTo};
@@ -58,6 +58,7 @@ pub fn run_asking(
     ensures goes { IfOk result (λ course. TurnsTo (λ m. act code.now instr (counted m)) state.old course state.new) }
     ensures same { OnErr result (state.new ≡ state.old) }
     ensures memory { OnErr result (IsTrue (takes_memory (is_some state.old.machine.recording) instr)) }
+    ensures unit { OnErr result (1 ≤ state.old.machine.units) }
 {
     match instr {
         Instr::Out(channel, address) => out(state, channel, address),

@@ -7,6 +7,6 @@ use rtio_types::{Outcome, Request};
 pub enum Stop {
     /// It asks a request, and goes on once it is answered.
     Ask(Request),
-    /// It has come to its end.
+    /// It has come to its end: Returned, Raised or Budget.
     Ended(Outcome),
 }

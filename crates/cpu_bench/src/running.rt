@@ -11,6 +11,7 @@ use std::alloc::{AllocError, Global};
 /// How a run ends.
 #[derive(Clone, Copy, Debug)]
 pub struct End {
+    /// How.
     pub outcome: Outcome,
     /// How many instructions began.
     pub steps: u64,

@@ -1,6 +1,6 @@
 // Outputs.
 
-ghost use Rattle.std.specs.Prelude.{◌≡◌, ◌+◌, ◌<◌, ◌^◌, is_some, IfOk, IsTrue, OnErr};
+ghost use Rattle.std.specs.Prelude.{◌≡◌, ◌+◌, ◌<◌, ◌≤◌, ◌^◌, is_some, IfOk, IsTrue, OnErr};
 ghost use Rattle.core_isa.specs.Runs.{counted};
 ghost use Rattle.core_isa.specs.Steps.{act, output};
 ghost use Rattle.core_isa.specs.declared.code.Code.{Code};
@@ -22,6 +22,7 @@ fn put_out(state: &mut State, channel: u8, address: u8, word: i64) -> Result<Cou
     ensures goes { IfOk result (λ course. TurnsTo (λ m. output channel address word (counted m)) state.old course state.new) }
     ensures same { OnErr result (state.new ≡ state.old) }
     ensures memory { OnErr result (IsTrue (is_some state.old.machine.recording)) }
+    ensures unit { OnErr result (1 ≤ state.old.machine.units) }
 {
     let event = Event {
         channel,
@@ -49,6 +50,7 @@ pub fn out(state: &mut State, channel: u8, address: u8) -> Result<Course, AllocE
     ensures goes { IfOk result (λ course. (code : Code) → TurnsTo (λ m. act code (I.Out channel address) (counted m)) state.old course state.new) }
     ensures same { OnErr result (state.new ≡ state.old) }
     ensures memory { OnErr result (IsTrue (is_some state.old.machine.recording)) }
+    ensures unit { OnErr result (1 ≤ state.old.machine.units) }
 {
     let word = state.pop();
     let course = put_out(state, channel, address, word);
@@ -64,6 +66,7 @@ pub fn out_to(state: &mut State, channel: u8) -> Result<Course, AllocError>
     ensures goes { IfOk result (λ course. (code : Code) → TurnsTo (λ m. act code (I.OutTo channel) (counted m)) state.old course state.new) }
     ensures same { OnErr result (state.new ≡ state.old) }
     ensures memory { OnErr result (IsTrue (is_some state.old.machine.recording)) }
+    ensures unit { OnErr result (1 ≤ state.old.machine.units) }
 {
     let word = state.pop();
     let address = state.pop();

@@ -7,7 +7,7 @@ ghost use Rattle.core_isa.specs.declared.code.Code.{Code};
 ghost use Rattle.core_isa.specs.declared.instr.Instr.TheVariants as I;
 ghost use Rattle.core_cpu.specs.Courses.{Fits, TurnsTo};
 
-use super::{asks, name_of};
+use super::{asks, name_of, spent};
 use crate::course::Course;
 use crate::phase::Purpose;
 use crate::state::State;
@@ -118,8 +118,13 @@ pub fn data_list(
     requires array { first + count ≤ length state.old.machine.top.slots }
     ensures goes { IfOk result (λ course. TurnsTo (λ m. act code.now (I.DataList name first count) (counted m)) state.old course state.new) }
     ensures same { OnErr result (state.new ≡ state.old) }
+    ensures unit { OnErr result (1 ≤ state.old.machine.units) }
 {
     let name = name_of(code, name);
+    if state.units() == 0 {
+        state.count();
+        return Ok(Course::Silent(spent(state)));
+    }
     let items = state.array(alloc, first as usize, count as usize)?;
     let value = Value::List(IntList::of(items));
     state.count();
