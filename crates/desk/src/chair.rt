@@ -55,7 +55,7 @@ impl<T: Booked> Model for Note<T> {
 /// The answer of a lost try: the value is taken.
 #[derive(Drop, Clone, Copy, PartialEq, Eq, Debug)]
 pub struct Taken {
-    /// The number of the chair that holds it, which the try read.
+    /// The number of another chair, which the try read in the value's place.
     pub by: u32,
 }
 

@@ -15,7 +15,7 @@ impl<T: Booked> Desk<T> {
     /// Tries once to take the value, and never waits. It takes no memory.
     ///
     /// What it finds begins with all that the chair had seen, and has just the acts of the chair that it put.
-    /// `Taken` names another chair, which held the value at this try; `lost` has grown by its number.
+    /// `Taken` names another chair; `lost` has grown by its number.
     pub fn try_take(&self, chair: &mut Chair<T>) -> Result<Held<T>, Taken>
         requires of { chair.old.desk ≡ self.now.id }
         requires free { chair.old.holds ≡ false }

@@ -1,6 +1,6 @@
 //! The edges of the inputs, as a gate lets them through (ARTIQ manual, "TTLInOut"): which edges are seen, which are kept
-//! until they are read, and what a request for one is answered. The script of edges stands for the world outside; it
-//! and the limits are this project's own.
+//! until they are read, and what a request for one is answered. The script of edges stands for the world outside; it,
+//! the limits, the answers by an upper bound and what a reset does to inputs are this project's own.
 #![tactic(auto)]
 
 mod channel;

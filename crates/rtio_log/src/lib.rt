@@ -26,7 +26,7 @@ pub enum LogKind {
 pub struct LogLine {
     /// Why.
     pub kind: LogKind,
-    /// Its submission number: how many events were submitted before it.
+    /// Its number: how many outputs were asked before it, late ones counted.
     pub number: u64,
     /// The event itself.
     pub event: Event,

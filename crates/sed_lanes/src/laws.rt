@@ -20,7 +20,7 @@ pub fn decided_stays_decided()
         verdict (lanes_after lanes depth judged from) e from ≡ Undecided }
 {}
 
-/// An event that is later than all accepted since the last clearing isn't out of sequence.
+/// An event of a later cycle than all accepted since the last clearing isn't out of sequence.
 pub fn a_later_event_is_in_sequence()
     ensures { (lanes depth : ℕ) (judged : List Judged) (counter : ℕ) (e : Event) →
         list_all (λ p. nat_lt (cycle_of p.1) (cycle_of e)) (accepted_since_clearing judged) ≡ true →
