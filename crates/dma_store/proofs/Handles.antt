@@ -63,7 +63,7 @@ handle-fetches kept name handle few is = by (has_position kept name handle is)
         ap (recording_handled kept) p.handle_is ∙ (λ j. fetched kept (epoch_part kept.epoch p.at small j) (position_part kept.epoch p.at small j)) ∙ ap (λ b. cond b None (option_map (λ entry. entry.1) (slice_get kept.entries p.at))) fresh ∙ ap (option_map (λ entry. entry.1)) (sym p.found)
 
 -- the next epoch is another one
-next_differs : (epoch : ℕ) → epoch < 2 ^ 50 → epoch ≢ next_epoch epoch
+pub next_differs : (epoch : ℕ) → epoch < 2 ^ 50 → next_epoch epoch ≢ epoch
 next_differs epoch early same = omega arith
 
 int_eq-false : (a b : ℕ) → a ≢ b → int_eq (pos a) (pos b) ≡ false
@@ -73,14 +73,13 @@ int_eq-false a b differ = by (int_eq (pos a) (pos b)) refl
     by true is = let same : pos a ≡ pos b = (Decides-int_eq (pos a) (pos b)).0 is in let equal : a ≡ b = cc in absurd (differ equal)
     by false is = refl
 
--- in the next epoch the handle of a name is old
-pub handle-old : (kept next : KeptState) (name : List ℕ) (handle : ℤ) → length kept.entries ≤ 4096 → kept.epoch < 2 ^ 50 → handle_of kept name ≡ Some handle → next.epoch ≡ next_epoch kept.epoch → IsTrue (is_old next handle)
+-- in another epoch the handle of a name is old
+pub handle-old : (kept later : KeptState) (name : List ℕ) (handle : ℤ) → length kept.entries ≤ 4096 → handle_of kept name ≡ Some handle → later.epoch ≢ kept.epoch → IsTrue (is_old later handle)
 unfolding old_parts
-handle-old kept next name handle few early is later = by (has_position kept name handle is)
+handle-old kept later name handle few is other = by (has_position kept name handle is)
   where
-    by : HasPosition kept name handle → IsTrue (is_old next handle)
+    by : HasPosition kept name handle → IsTrue (is_old later handle)
     by p =
         let small : p.at < 4096 = omega (arith, p.within) in
-        let other : kept.epoch ≢ next.epoch = λ same. next_differs kept.epoch early (same ∙ later) in
-        let differ = int_eq-false kept.epoch next.epoch other in
-        ap (is_old next) p.handle_is ∙ (λ j. old_parts next (epoch_part kept.epoch p.at small j) (position_part kept.epoch p.at small j)) ∙ ap (λ b. not b || nat_le (length next.entries) p.at) differ
+        let differ = int_eq-false kept.epoch later.epoch (λ same. other (sym same)) in
+        ap (is_old later) p.handle_is ∙ (λ j. old_parts later (epoch_part kept.epoch p.at small j) (position_part kept.epoch p.at small j)) ∙ ap (λ b. not b || nat_le (length later.entries) p.at) differ

@@ -1,6 +1,6 @@
 //! What holds of every store, and of all recording bytes.
 
-ghost use Rattle.std.specs.Prelude.{◌≡◌, ◌<◌, ◌≤◌, ◌^◌, ◌++◌, ◌↔◌, ℕ, ℤ, List, [], None, Some, length, slice_index, bytes_eq, if◌then◌else◌, IsTrue};
+ghost use Rattle.std.specs.Prelude.{◌≡◌, ◌≢◌, ◌<◌, ◌≤◌, ◌^◌, ◌++◌, ◌↔◌, ℕ, ℤ, List, [], None, Some, length, slice_index, bytes_eq, if◌then◌else◌, IsTrue};
 ghost use Rattle.rtio_types.specs.Recordings.{Recorded};
 ghost use Rattle.dma_store.specs.Kept.{KeptState, erased, handle_of, is_old, next_epoch, recording_handled, recording_named, saved};
 ghost use Rattle.dma_store.specs.Spelling.{IsSpelling, first_wrong, spelling};
@@ -23,10 +23,11 @@ pub fn handles_fetch_what_they_name()
         handle_of kept name ≡ Some handle → recording_handled kept handle ≡ recording_named kept name }
 {}
 
-/// In the next epoch, which each save and each erase begins, a handle is old.
+/// In every other epoch a handle is old. Each save and each erase that succeeds begins another one.
 pub fn handles_grow_old()
-    ensures { (kept next : KeptState) (name : List ℕ) (handle : ℤ) → length kept.entries ≤ 4096 → kept.epoch < 2 ^ 50 →
-        handle_of kept name ≡ Some handle → next.epoch ≡ next_epoch kept.epoch → IsTrue (is_old next handle) }
+    ensures old { (kept later : KeptState) (name : List ℕ) (handle : ℤ) → length kept.entries ≤ 4096 →
+        handle_of kept name ≡ Some handle → later.epoch ≢ kept.epoch → IsTrue (is_old later handle) }
+    ensures other { (epoch : ℕ) → epoch < 2 ^ 50 → next_epoch epoch ≢ epoch }
 {}
 
 /// Bytes have no wrong field exactly where they spell a recording.

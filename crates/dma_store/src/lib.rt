@@ -1,4 +1,5 @@
-//! Recordings that a core keeps by name until they are erased, as the ARTIQ manual's DMA does, and the bytes of one.
+//! Recordings that a core keeps by name until they are erased, as the ARTIQ manual's DMA does, and the bytes of one. The
+//! limit of 4,096 names, epochs and handles, what is refused, and the bytes are this project's own.
 #![tactic(auto)]
 
 mod bytes;

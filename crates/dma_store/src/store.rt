@@ -1,6 +1,6 @@
 // The recordings of a core.
 
-ghost use Rattle.std.specs.Prelude.{◌≡◌, ◌↔◌, ◌<◌, ◌^◌, ℕ, None, Some, is_none, IsOk, IsTrue, IfOk, IfSome, OnOk, OnErr};
+ghost use Rattle.std.specs.Prelude.{◌≡◌, ◌↔◌, ◌<◌, ◌≤◌, ◌^◌, ℕ, length, None, Some, is_none, IsOk, IsTrue, IfOk, IfSome, OnOk, OnErr};
 ghost use Rattle.std.specs.Option.{option_copied};
 ghost use Rattle.std.specs.Result.{result_ok};
 ghost use Rattle.dma_store.specs.Kept.{is_playable, no_recordings, is_kept, is_full_for, is_old, next_epoch, saved, erased};
@@ -42,7 +42,8 @@ pub enum FetchEnd {
 /// Why a handle gives no recording.
 #[derive(Clone, Copy, Debug, PartialEq, Eq)]
 pub enum HandleEnd {
-    /// A save or an erase came after the handle was given, or no save gave it; with the epoch of now.
+    /// Its quotient by 4,096, rounded down, isn't the epoch, or the rest isn't a position: a save or an erase came since
+    /// it was given. With the epoch of now.
     OldHandle { epoch: u64 },
     /// Want of memory.
     Memory,
@@ -123,7 +124,8 @@ impl Store {
         }
     }
 
-    /// Keeps a copy of a recording under a name, in the place of the one that the name had; a new name goes last.
+    /// Keeps a copy of a recording under a name, in the place of the one that the name had; a new name goes last. The
+    /// recording has fewer than 2^32 events, each of the board.
     pub fn save(&mut self, alloc: Global, name: &Name, recording: &Recording) -> Result<(), SaveEnd>
         requires { IsTrue (is_playable recording.now) }
         ensures ok { OnOk result (self.new ≡ saved self.old name.now recording.now) }
@@ -150,7 +152,10 @@ impl Store {
     /// The handle of a name: 4,096 times the epoch, and the name's position from 0. It is old after the next save or
     /// erase. What a handle is made of is this project's own.
     pub fn handle(&self, name: &Name) -> Result<i64, NoTrace>
-        ensures { result_ok result ≡ handle_of self.now name.now }
+        ensures value { result_ok result ≡ handle_of self.now name.now }
+        // What is true of every store, as the laws of handles want it.
+        ensures places { length self.now.entries ≤ 4096 }
+        ensures epoch { self.now.epoch < 2 ^ 50 }
     {
         match self.recordings.get_index_of(name.bytes()) {
             Some(position) => Ok((self.epoch * PLACES as u64 + position as u64) as i64),
