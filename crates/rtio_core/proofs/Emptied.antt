@@ -2,6 +2,7 @@
 use Rattle.std.proofs.Common.{◌≡◌, ◌≤◌, ℕ, List, [], ◌∷◌, ◌++◌, length, ap, sym, subst, ◌∙◌, arith}
 use Rattle.rtio_types.specs.declared.event.Event.{Event}
 use Rattle.rtio_log.specs.Lines.{LogState}
+use Rattle.rtio_log.specs.declared.LogLine.{LogLine}
 use Rattle.rtio_log.specs.declared.LogKind.TheVariants as kind
 use Rattle.sed_lanes.specs.Heads.{HeadsState, by_number, is_earlier}
 use Rattle.sed_lanes.specs.Judged.{Judged, LaneStep, Clear, Cleared, judged, lanes_after, next_number}
@@ -22,9 +23,11 @@ use Rattle.output_merge.proofs.Steps.{out_of_sequence-cleared}
 use Rattle.output_merge.proofs.Ticks.{length-sorted}
 use Rattle.rtio_core.specs.declared.outputs.Outputs.{Outputs}
 use Rattle.rtio_core.specs.Lines.{lines_for}
+use Rattle.rtio_core.specs.LogOrder.{log_lines}
 use Rattle.rtio_core.specs.Played.{IsPlayed}
 use Rattle.rtio_core.specs.Told.{TellsLog}
 use Rattle.rtio_core.proofs.LogLines.{tells-cleared}
+use Rattle.rtio_core.proofs.LogOrder.{lines-cleared}
 use Rattle.rtio_core.proofs.Made.{held-none}
 
 -- sorted by number they are as many
@@ -55,6 +58,9 @@ played-cleared o left cleared log greatest counter lanes depth steps h after mov
           (tells-cleared (logged old counter) (logged new counter) o.log.lines cleared.items h.log
           (out_of_sequence-cleared old counter) (collided-cleared old counter counter (omega arith))
           (cleared-cleared lanes depth steps counter h.lanes_least h.in_time ∙ ap (λ (ps : List (ℕ × Event)). (logged old counter).cleared ++ ps) (sym there))));
+      lines = logs ∙ ap (λ (ls : List LogLine). ls ++ lines_for kind.Cleared cleared.items) h.lines
+          ∙ ap (λ (ps : List (ℕ × Event)). log_lines old counter ++ lines_for kind.Cleared ps) there
+          ∙ sym (lines-cleared lanes depth steps counter h.lanes_least h.in_time) ∙ ap (λ (j : List Judged). log_lines j counter) grows;
       peaks = h.peaks ∙ sym (peaks-cleared lanes old counter) ∙ ap (peaks_of lanes) grows;
       number = h.number ∙ sym (next-number-cleared old counter) ∙ ap next_number grows;
       greatest = falls ∙ h.reached ∙ sym (greatest-cleared old counter) ∙ ap (λ (j : List Judged). greatest_cycle (live j)) grows;

@@ -6,6 +6,8 @@ pub mod Next
 pub mod Made
 mod Moves
 mod LogLines
+mod LogOrder
+mod LogExamples
 mod Submitted
 mod Ticked
 mod Cycled
@@ -13,6 +15,7 @@ mod Asked
 mod Waited
 mod AskedEdges
 mod Edges
+pub mod OutputsDecided
 mod Tops
 mod Reasons
 mod Emptied

@@ -36,6 +36,7 @@ played-new lanes depth o some few deep is_empty no_lines no_output short zeros n
       standing = is_empty ∙ sym (lanes_after-nothing lanes depth [] 0 refl);
       put_out = no_output;
       log = rw no_lines (record { sequence = refl; collided = refl; cleared = refl });
+      lines = rw no_lines refl;
       peaks = zeros ∙ sym (peaks-none 0 lanes);
       number = no_number;
       greatest = no_greatest;

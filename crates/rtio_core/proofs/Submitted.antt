@@ -1,11 +1,12 @@
 -- What one output more does to what a core keeps of its outputs.
-use Rattle.std.proofs.Common.{◌≡◌, ◌+◌, ◌-◌, ◌^◌, ◌≤◌, ◌<◌, ℕ, true, List, [], ◌∷◌, ◌++◌, get_or, length, max, set, refl, ap, sym, subst, ◌∙◌, arith}
+use Rattle.std.proofs.Common.{◌≡◌, ◌+◌, ◌-◌, ◌^◌, ◌≤◌, ◌<◌, ℕ, true, List, [], ◌∷◌, ◌++◌, get_or, length, max, set, refl, ap, sym, subst, ◌∙◌, append-nil, arith}
 use Rattle.std.specs.Prelude.{ℤ, nat_le, Vec, vec_len, vec_capacity}
 use Rattle.std.proofs.lemmas.Bool.{le-leb}
 use Rattle.std.specs.declared.alloc.Global.{Global}
 use Rattle.rtio_types.specs.declared.event.Event.{Event}
 use Rattle.rtio_types.specs.Time.{cycle_of}
 use Rattle.rtio_log.specs.Lines.{LogState}
+use Rattle.rtio_log.specs.declared.LogLine.{LogLine}
 use Rattle.rtio_log.specs.declared.LogKind.TheVariants as kind
 use Rattle.sed_lanes.specs.Lanes.{LanesState, held_events, lane_at, with_accepted}
 use Rattle.sed_lanes.specs.Judged.{Judged, LaneStep, Submit, Submitted, judged, lanes_after, next_number}
@@ -31,9 +32,11 @@ use Rattle.output_merge.proofs.Parts.{collided-accepted, collided-unplaced, live
 use Rattle.output_merge.proofs.Steps.{cleared-submitted, live-unplaced, out_of_sequence-more, out_of_sequence-submitted}
 use Rattle.rtio_core.specs.declared.outputs.Outputs.{Outputs}
 use Rattle.rtio_core.specs.Lines.{lines_for}
+use Rattle.rtio_core.specs.LogOrder.{lines_of_step, log_lines}
 use Rattle.rtio_core.specs.Played.{IsPlayed}
 use Rattle.rtio_core.specs.Told.{TellsLog}
 use Rattle.rtio_core.proofs.LogLines.{tells-same, tells-sequence}
+use Rattle.rtio_core.proofs.LogOrder.{lines-accepted, lines-unplaced}
 
 -- the event has the next number and its verdict
 grown : (lanes depth : ℕ) (steps : List LaneStep) (counter : ℕ) (e : Event) (v : Verdict) → verdict (lanes_after lanes depth (judged lanes depth steps) counter) e counter ≡ v → judged lanes depth (steps ++ Submit counter e ∷ []) ≡ judged lanes depth steps ++ Submitted (next_number (judged lanes depth steps)) counter e v ∷ []
@@ -42,8 +45,8 @@ grown lanes depth steps counter e v is =
     judged-submit lanes depth steps counter e ∙ ap (λ (x : Verdict). old ++ Submitted (next_number old) counter e x ∷ []) is
 
 -- no lane took it
-pub played-unplaced : (o : Outputs) (lanes depth : ℕ) (steps : List LaneStep) (counter : ℕ) (e : Event) (v : Verdict) (log : LogState) (number : ℕ) → IsPlayed o lanes depth steps counter → verdict (lanes_after lanes depth (judged lanes depth steps) counter) e counter ≡ v → IsUnplaced v → number ≡ o.number + 1 → TellsLog (logged (judged lanes depth steps ++ Submitted (next_number (judged lanes depth steps)) counter e v ∷ []) counter) log.lines → length (held_events o.lanes) ≤ log.room → IsPlayed (record o { log = log; number = number }) lanes depth (steps ++ Submit counter e ∷ []) counter
-played-unplaced o lanes depth steps counter e v log number h is un next tells room =
+pub played-unplaced : (o : Outputs) (lanes depth : ℕ) (steps : List LaneStep) (counter : ℕ) (e : Event) (v : Verdict) (log : LogState) (number : ℕ) → IsPlayed o lanes depth steps counter → verdict (lanes_after lanes depth (judged lanes depth steps) counter) e counter ≡ v → IsUnplaced v → number ≡ o.number + 1 → TellsLog (logged (judged lanes depth steps ++ Submitted (next_number (judged lanes depth steps)) counter e v ∷ []) counter) log.lines → log.lines ≡ o.log.lines ++ lines_of_step (judged lanes depth steps) (Submitted (next_number (judged lanes depth steps)) counter e v) → length (held_events o.lanes) ≤ log.room → IsPlayed (record o { log = log; number = number }) lanes depth (steps ++ Submit counter e ∷ []) counter
+played-unplaced o lanes depth steps counter e v log number h is un next tells adds room =
     let old : List Judged = judged lanes depth steps in
     let n : ℕ = next_number old in
     let grows = sym (grown lanes depth steps counter e v is) in
@@ -56,6 +59,8 @@ played-unplaced o lanes depth steps counter e v log number h is un next tells ro
       standing = h.standing ∙ sym (lanes_after-unplaced lanes depth old n counter counter e v un) ∙ ap (λ (j : List Judged). lanes_after lanes depth j counter) grows;
       put_out = h.put_out ∙ sym (outputs-unplaced old n counter e v counter un) ∙ ap (λ (j : List Judged). outputs j counter) grows;
       log = subst (λ (j : List Judged). TellsLog (logged j counter) log.lines) grows tells;
+      lines = adds ∙ ap (λ (ls : List LogLine). ls ++ lines_of_step old (Submitted n counter e v)) h.lines
+          ∙ sym (lines-unplaced old n counter e v un) ∙ ap (λ (j : List Judged). log_lines j counter) grows;
       peaks = h.peaks ∙ sym (peaks-unplaced lanes old n counter e v un) ∙ ap (peaks_of lanes) grows;
       number = next ∙ ap (λ (m : ℕ). m + 1) h.number ∙ sym (next-number-submitted old n counter e v) ∙ ap next_number grows;
       greatest = h.greatest ∙ ap greatest_cycle same;
@@ -78,7 +83,7 @@ played-missed o lanes depth steps counter e number h late next =
     played-unplaced o lanes depth steps counter e Underflow o.log number h is tt next
     (tells-same (logged old counter) (logged (old ++ Submitted n counter e Underflow ∷ []) counter) o.log.lines h.log
     (out_of_sequence-submitted old n counter e Underflow tt) (collided-unplaced old n counter e Underflow counter tt) (cleared-submitted old n counter e Underflow))
-    h.log_room
+    (sym (append-nil o.log.lines)) h.log_room
 
 -- the place that was answered says the verdict
 pub verdict-lane : (s : LanesState) (e : Event) (v : Verdict) (k : ℕ) → Answers s e v (place.Lane k) → v ≡ Lane k
@@ -112,7 +117,7 @@ played-sequence o left log number counter e last lanes depth steps h answers aft
     (subst (TellsLog (logged (old ++ Submitted n counter e Sequence ∷ []) counter)) lines
     (tells-sequence (logged old counter) (logged (old ++ Submitted n counter e Sequence ∷ []) counter) o.log.lines ((n, e) ∷ []) h.log
     (out_of_sequence-more old n counter e) (collided-unplaced old n counter e Sequence counter tt) (cleared-submitted old n counter e Sequence)))
-    rest)
+    (sym lines) rest)
 
 -- the lane of a verdict is one of the lanes
 pub lane-below : (o : Outputs) (counter : ℕ) (e : Event) (k lanes depth : ℕ) (steps : List LaneStep) → IsPlayed o lanes depth steps counter → Answers o.lanes e (verdict o.lanes e counter) (place.Lane k) → k < lanes
@@ -151,6 +156,7 @@ played-accepted o left peaks held peak greatest number counter e k lanes depth s
       log = subst (λ (j : List Judged). TellsLog (logged j counter) o.log.lines) grows
           (tells-same (logged old counter) (logged new counter) o.log.lines h.log
           (out_of_sequence-submitted old n counter e (Lane k) tt) (collided-accepted old n counter e k counter later) (cleared-submitted old n counter e (Lane k)));
+      lines = h.lines ∙ sym (lines-accepted old n counter e k later) ∙ ap (λ (j : List Judged). log_lines j counter) grows;
       peaks = sets ∙ topped ∙ ap (peaks_of lanes) grows;
       number = next ∙ ap (λ (m : ℕ). m + 1) h.number ∙ sym (next-number-submitted old n counter e (Lane k)) ∙ ap next_number grows;
       greatest = grew ∙ ap (λ (m : ℕ). max m (cycle_of e)) h.greatest ∙ sym (greatest-accepted (live old) (n, e)) ∙ ap greatest_cycle (sym events) ∙ ap (λ (j : List Judged). greatest_cycle (live j)) grows;

@@ -6,6 +6,7 @@ use Rattle.std.specs.Map.{keys_of}
 use Rattle.std.specs.declared.alloc.Global.{Global}
 use Rattle.rtio_types.specs.declared.event.Event.{Event}
 use Rattle.rtio_log.specs.Lines.{LogState}
+use Rattle.rtio_log.specs.declared.LogLine.{LogLine}
 use Rattle.rtio_log.specs.declared.LogKind.TheVariants as kind
 use Rattle.sed_lanes.specs.Calls.{all_held_from, held_at, without}
 use Rattle.sed_lanes.specs.Heads.{HeadsState, by_number, is_earlier}
@@ -23,9 +24,11 @@ use Rattle.output_merge.proofs.Greatest.{greatest-tick-none, greatest-tick-some}
 use Rattle.output_merge.proofs.Ticks.{collided-tick, held_at-of_cycle, length-kept, length-sorted, outputs-tick}
 use Rattle.rtio_core.specs.declared.outputs.Outputs.{Outputs}
 use Rattle.rtio_core.specs.Lines.{lines_for}
+use Rattle.rtio_core.specs.LogOrder.{log_lines}
 use Rattle.rtio_core.specs.Played.{IsPlayed}
 use Rattle.rtio_core.specs.Told.{TellsLog}
 use Rattle.rtio_core.proofs.LogLines.{tells-same, tells-collided}
+use Rattle.rtio_core.proofs.LogOrder.{lines-tick}
 
 -- what a drain and a merge of the next cycle ask
 pub record MayDrain (o : Outputs) (counter lanes : ℕ) : Type 0 where
@@ -90,6 +93,8 @@ played-idle o left heads counter lanes depth steps h after moved space none =
           (collided-tick lanes depth steps counter h.lanes_least h.in_time
           ∙ ap (λ (ds : List (ℕ × Event)). up_to counter (collisions (live old)) ++ collisions (by_number ds)) nothing ∙ append-nil _)
           refl;
+      lines = h.lines ∙ sym (lines-tick lanes depth steps counter h.lanes_least h.in_time
+          ∙ ap (λ (ds : List (ℕ × Event)). log_lines old counter ++ lines_for kind.Collision (collisions (by_number ds))) nothing ∙ append-nil _);
       peaks = h.peaks;
       number = h.number;
       greatest = h.greatest;
@@ -162,6 +167,9 @@ played-ticked o left drained kept collided heads kept_left collided_left put_out
           (collided-tick lanes depth steps counter h.lanes_least h.in_time
           ∙ ap (λ (ps : List (ℕ × Event)). up_to counter (collisions (live old)) ++ ps) (ap (λ (ds : List (ℕ × Event)). collisions (by_number ds)) (sym there) ∙ sym m.collides))
           refl);
+      lines = logs ∙ ap (λ (ls : List LogLine). ls ++ lines_for kind.Collision collided.items) h.lines
+          ∙ ap (λ (ps : List (ℕ × Event)). log_lines old counter ++ lines_for kind.Collision ps) (m.collides ∙ ap (λ (ds : List (ℕ × Event)). collisions (by_number ds)) there)
+          ∙ sym (lines-tick lanes depth steps counter h.lanes_least h.in_time);
       peaks = h.peaks;
       number = h.number;
       greatest = h.greatest;

@@ -13,30 +13,24 @@ use Rattle.rtio_types.specs.Time.{reading}
 use Rattle.sed_lanes.specs.Calls.{wait_of}
 use Rattle.sed_lanes.specs.Lanes.{LanesState}
 use Rattle.sed_lanes.specs.Verdict.{Verdict, Underflow, Lane, Sequence, Undecided, verdict}
-use Rattle.sed_lanes.proofs.Histories.{undecided-earlier}
 use Rattle.rtio_input.specs.Channel.{edge_reply}
 use Rattle.rtio_input.specs.Past.{are_made_by}
 use Rattle.rtio_input.specs.Script.{are_edges_ok}
 use Rattle.rtio_core.specs.declared.data.Config.{Config}
 use Rattle.rtio_core.specs.declared.data.Entry.{Entry}
 use Rattle.rtio_core.specs.declared.one_core.Core.TheInside.{Inside}
-use Rattle.rtio_core.specs.Entries.{input_steps, judged_history, last_at, limit, open_session}
-use Rattle.rtio_core.specs.Reply.{is_decided, reply_to_event, unread_in, verdict_at}
+use Rattle.rtio_core.specs.Entries.{input_steps, last_at, limit, open_session}
+use Rattle.rtio_core.specs.Reply.{is_decided, reply_to_event, unread_in}
 use Rattle.rtio_core.specs.Lawful.{IsLawful}
 use Rattle.rtio_core.specs.Top.{first_decided, least_from, top}
 use Rattle.rtio_core.specs.Core.{CoreState, core_top}
 use Rattle.rtio_core.specs.Calls.{has_to_wait}
 use Rattle.rtio_core.specs.Fields.{IsCoreInside, core_state}
 use Rattle.rtio_core.proofs.Laws.{least_from-above, least_from-before, least_from-passes}
+use Rattle.rtio_core.proofs.OutputsDecided.{output-decided-stays}
 use Rattle.rtio_core.proofs.AskedEdges.{edge-decided}
 use Rattle.rtio_core.proofs.Edges.{edge-stays, made-by-last, made-later}
 use Rattle.rtio_core.proofs.Settings.{horizon-most}
-
-output-stays : (now before : Verdict) → (now ≡ Undecided → before ≡ Undecided) → is_some (reply_to_event before) ≡ true → is_some (reply_to_event now) ≡ true
-output-stays Underflow before waits h = refl
-output-stays (Lane k) before waits h = refl
-output-stays Sequence before waits h = refl
-output-stays Undecided before waits h = let same : before ≡ Undecided = waits refl in sym (ap (λ (v : Verdict). is_some (reply_to_event v)) same) ∙ h
 
 wait-stays : (until : ℤ) (from to : ℕ) → from ≤ to → is_some (if int_le until (pos (reading from)) then Some answer.Done else None) ≡ true → is_some (if int_le until (pos (reading to)) then Some answer.Done else None) ≡ true
 wait-stays (pos n) from to le h = grind (arith, nat_tests, le, h)
@@ -44,8 +38,7 @@ wait-stays (negsuc n) from to le h = refl
 
 -- what is decided at a counter, no earlier than the history, is decided at each later one
 pub decided-stays : (config : Config) (history : List Entry) (request : Request) (from to : ℕ) → IsTrue (are_edges_ok config.edges) → are_made_by from (input_steps history) ≡ true → from ≤ to → is_decided config history request from ≡ true → is_decided config history request to ≡ true
-decided-stays config history (ask.Out e) from to ok made le h =
-    output-stays (verdict_at config history e to) (verdict_at config history e from) (undecided-earlier config.lanes config.depth (judged_history config history) e from to le) h
+decided-stays config history (ask.Out e) from to ok made le h = output-decided-stays config history e from to le h
 decided-stays config history ask.Counter from to ok made le h = refl
 decided-stays config history ask.Reset from to ok made le h = refl
 decided-stays config history (ask.Wait until) from to ok made le h = wait-stays until from to le h
@@ -56,6 +49,11 @@ decided-stays config history (ask.FetchHandle handle) from to ok made le h = ref
 decided-stays config history (ask.Handle name) from to ok made le h = refl
 decided-stays config history (ask.Erase name) from to ok made le h = h
 decided-stays config history (ask.Data name value) from to ok made le h = refl
+
+-- the same of a lawful history
+pub decided-later : (config : Config) (history : List Entry) (request : Request) (from to : ℕ) → IsTrue (are_edges_ok config.edges) → IsLawful config history → last_at history ≤ from → from ≤ to → is_decided config history request from ≡ true → is_decided config history request to ≡ true
+decided-later config history request from to ok lawful last le =
+    decided-stays config history request from to ok (made-later (last_at history) from (input_steps history) last (made-by-last config history lawful)) le
 
 -- the search for the least number that passes goes past one that doesn't, where what passes stays
 pub first-later : (test : ℕ → Bool) (from more counter : ℕ) → ((m n : ℕ) → from ≤ m → m ≤ n → test m ≡ true → test n ≡ true) → from ≤ counter → counter < from + more → test counter ≡ false → counter < least_from test from more
@@ -81,7 +79,7 @@ top-waits config history request counter running true ok lawful is far last belo
 )
 top-waits config history request counter running false ok lawful is far last below waits = (
   (λ yes. let before : counter < first_decided config history request =
-      first-later (is_decided config history request) (last_at history) (config.horizon - last_at history) counter (λ m n low le. decided-stays config history request m n ok (made-later (last_at history) m (input_steps history) low (made-by-last config history lawful)) le) last (omega (arith, last, below)) waits in
+      first-later (is_decided config history request) (last_at history) (config.horizon - last_at history) counter (λ m n low le. decided-later config history request m n ok lawful low le) last (omega (arith, last, below)) waits in
       rw is (omega (arith, before, below))),
   (λ lt. refl),
 )

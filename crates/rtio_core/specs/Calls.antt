@@ -39,7 +39,7 @@ abbrev pub NoOtherWaits : Option Waiting → Request → Type 0
 NoOtherWaits None request = Unit {0}
 NoOtherWaits (Some w) request = request_waiting w ≡ request
 
--- the counter at which the core should be asked again
+-- the counter at which the core should be asked again at the latest
 abbrev pub asked_again_at : CoreState → Waiting → ℕ
 asked_again_at core (waiting.Out e) = until (lanes_at core.config core.history core.counter) e
 asked_again_at core (waiting.Wait until) = counter_reaching until
@@ -81,7 +81,7 @@ AnswersTick old (tick.Held limit) new =
     (old.counter < old.config.horizon) × (old.counter ≡ core_top old) × (limit ≡ told_limit old) × (new ≡ old)
 AnswersTick old tick.Horizon new = (old.counter ≡ old.config.horizon) × (new ≡ old)
 
--- a session may end while a request waits at the horizon alone
+-- while a request waits a session may end with the outcome Horizon alone
 abbrev pub MayEnd : Option Waiting → Outcome → Type 0
 MayEnd None how = Unit {0}
 MayEnd (Some w) how = how ≡ outcome.Horizon

@@ -7,6 +7,7 @@ pub mod Told
 pub mod Core
 pub mod Calls
 pub mod Lines
+pub mod LogOrder
 pub mod Played
 pub mod Fields
 pub mod Errors

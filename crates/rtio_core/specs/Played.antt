@@ -7,6 +7,7 @@ use Rattle.sed_lanes.specs.Peaks.{peaks_of}
 use Rattle.output_merge.specs.Live.{live, greatest_cycle}
 use Rattle.output_merge.specs.Outputs.{logged, outputs, up_to}
 use Rattle.rtio_core.specs.declared.outputs.Outputs.{Outputs}
+use Rattle.rtio_core.specs.LogOrder.{log_lines}
 use Rattle.rtio_core.specs.Told.{TellsLog}
 
 -- each part is what the steps make of it at the counter, and there is room for what a tick adds
@@ -18,6 +19,7 @@ pub record IsPlayed (o : Outputs) (lanes depth : ℕ) (steps : List LaneStep) (c
   pub standing : o.lanes ≡ lanes_after lanes depth (judged lanes depth steps) counter
   pub put_out : o.put_out.items ≡ outputs (judged lanes depth steps) counter
   pub log : TellsLog (logged (judged lanes depth steps) counter) o.log.lines
+  pub lines : o.log.lines ≡ log_lines (judged lanes depth steps) counter
   pub peaks : o.peaks.items ≡ peaks_of lanes (judged lanes depth steps)
   pub number : o.number ≡ next_number (judged lanes depth steps)
   pub greatest : o.greatest ≡ greatest_cycle (live (judged lanes depth steps))

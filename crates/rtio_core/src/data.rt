@@ -75,7 +75,8 @@ pub struct Entry {
 pub enum Ask {
     /// It got this reply.
     Reply(Reply),
-    /// It waits for its reply, and should be asked again at this counter.
+    /// It isn't decided yet, and waits. It should be asked again where the core has stopped, at the counter `until` (cycles)
+    /// at the latest; an edge may be decided before.
     NotYet { until: u64, waiting: Waiting },
     /// Another request waits; this one is handed back.
     OtherPending { waiting: Waiting, request: Request },

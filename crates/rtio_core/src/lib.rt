@@ -10,5 +10,5 @@ mod replies;
 mod tests;
 
 pub use data::{Act, Ask, Config, Entry, StartEnd, StartOf, Tick, config_ok};
-pub use histories::a_name_fetches_what_was_saved_last;
+pub use histories::{a_name_fetches_what_was_saved_last, what_is_decided_stays_decided};
 pub use one_core::Core;

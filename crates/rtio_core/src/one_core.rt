@@ -5,11 +5,12 @@ mod edges;
 mod recordings;
 mod ticking;
 
-ghost use Rattle.std.specs.Prelude.{◌≡◌, ◌≢◌, ◌↔◌, ◌≤◌, ◌<◌, List, ℕ, [], ◌∷◌, ◌++◌, IfOk, IfErr, OnOk, OnErr, IsTrue, IsSome, Some, None, Ok, Err, option_map};
+ghost use Rattle.std.specs.Prelude.{◌≡◌, ◌≢◌, ◌↔◌, ◌≤◌, ◌<◌, List, ℕ, [], ◌∷◌, ◌++◌, IfOk, IfErr, IfSome, OnOk, OnErr, IsTrue, IsSome, Some, None, Ok, Err, option_map};
+ghost use Rattle.rtio_types.specs.Requests.{is_well_formed, request_waiting};
 ghost use Rattle.rtio_core.specs.Entries.{is_config_ok, last_cursor, open_session};
 ghost use Rattle.rtio_core.specs.Reply.{outputs_at};
 ghost use Rattle.rtio_core.specs.Lawful.{IsOpenFor};
-ghost use Rattle.rtio_core.specs.Told.{TellsLog, log_at, peaks_at};
+ghost use Rattle.rtio_core.specs.Told.{TellsLog, log_at, log_lines_at, peaks_at};
 ghost use Rattle.rtio_core.specs.Core.{CoreState, IsCore, new_core, core_top};
 ghost use Rattle.rtio_core.specs.Calls.{started, ended, MayEnd};
 
@@ -23,7 +24,8 @@ use std::alloc::{AllocError, Global};
 use std::marker::Model;
 
 /// One core. Contracts see it as its settings, its history, its counter and the request that waits: all else that it
-/// tells is what these make of it.
+/// tells is what these make of it. Lanes, replacement, collisions and underflow are as in the ARTIQ manual; limit, cost,
+/// horizon and history are this project's own.
 #[derive(Debug, Drop)]
 pub struct Core {
     config: Config,
@@ -99,7 +101,8 @@ impl Core {
         Ok(cursor)
     }
 
-    /// Ends the session. The waiting request, if there is one, is dropped.
+    /// Ends the session of chair `who` with this cursor (mu). While a request waits the outcome has to be Horizon, and the
+    /// request is dropped; that the counter stands at the horizon then isn't asked. The only error is want of memory.
     pub fn end(
         &mut self,
         alloc: Global,
@@ -146,9 +149,12 @@ impl Core {
         &self.outputs.put_out
     }
 
-    /// Which events were not put out so far, and why: those of each kind in their order.
+    /// Which events were out of sequence, collided or were cleared so far, in the order of adding: a tick adds the
+    /// collisions of its cycle, by channel and number; one out of sequence and those that a reset clears are added when
+    /// that is asked. Overridden events and those that came too late aren't among them.
     pub fn log(&self) -> &[LogLine]
-        ensures { TellsLog (log_at self.now.config self.now.history self.now.counter) result.now }
+        ensures kinds { TellsLog (log_at self.now.config self.now.history self.now.counter) result.now }
+        ensures lines { result.now ≡ log_lines_at self.now.config self.now.history self.now.counter }
     {
         self.outputs.log.lines()
     }
@@ -169,9 +175,11 @@ impl Core {
         self.session
     }
 
-    /// The request that waits.
+    /// The request that waits. It is one that a core can be asked, and none waits where no session is open.
     pub fn waiting(&self) -> Option<Waiting>
-        ensures { result ≡ self.now.waiting }
+        ensures value { result ≡ self.now.waiting }
+        ensures formed { IfSome result (λ waiting. IsTrue (is_well_formed (request_waiting waiting))) }
+        ensures open { open_session self.now.history ≡ None → result ≡ None }
     {
         self.pending
     }

@@ -21,16 +21,17 @@ use sed_lanes::cycle_of;
 use std::alloc::Global;
 
 impl Core {
-    /// Asks for a reply. A request that isn't decided at the counter waits from then on; while one waits, no other is
-    /// answered. For want of memory the request is handed back, and the core stands as before.
+    /// Asks for a reply. The open session is that of chair `who`, and the request is well formed. A request that isn't
+    /// decided at the counter waits from then on; while one waits, no other is answered. For want of memory the request is
+    /// handed back, and the core stands as before.
     pub fn ask(&mut self, alloc: Global, who: u32, request: Request) -> Result<Ask, Request>
         requires open { IsOpenFor who self.old.history }
         requires request { IsTrue (is_well_formed request) }
         ensures answer { IfOk result (λ answer. AnswersAsk self.old who request answer self.new) }
         ensures back { IfErr result (λ back. back ≡ request) }
         ensures err { OnErr result (self.new ≡ self.old) }
-        // An output later than all that were accepted since the last reset isn't out of sequence, and one later than the
-        // limit doesn't underflow.
+        // An output of a later cycle than all that were accepted since the last reset isn't out of sequence, and one of a
+        // later cycle than the limit's doesn't underflow.
         ensures sequence { (e : Event) → request ≡ kind.Out e → SequenceHasReason self.old.config self.old.history e self.old.counter }
         ensures underflow { (e : Event) (reply : Reply) → request ≡ kind.Out e → result ≡ Ok (Ask.Reply reply)
             → UnderflowHasReason self.old.config self.old.history e reply }
