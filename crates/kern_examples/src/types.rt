@@ -1,5 +1,10 @@
 // Texts whose trees are typed, and others with their first faults, from the rules of the types.
 
+ghost use Rattle.std.specs.Prelude.{IfOk};
+ghost use Rattle.kern_syntax.specs.Grammatical.{IsGrammatical};
+ghost use Rattle.kern_syntax.specs.Spellable.{IsSpellableProgram};
+ghost use Rattle.kern_syntax.specs.TreeOf.{tree_of};
+
 use kern_lexer::lex;
 use kern_parser::parse;
 use kern_syntax::{Program, print};
@@ -9,7 +14,10 @@ use std::process::Abort;
 use std::test::Fail;
 
 /// The tree that a text has.
-fn tree_of(rt: &impl Abort, alloc: Global, text: &str) -> Result<Program, Fail> {
+fn tree_of(rt: &impl Abort, alloc: Global, text: &str) -> Result<Program, Fail>
+    ensures grammatical { IfOk result (λ program. IsGrammatical (tree_of program)) }
+    ensures spellable { IfOk result (λ program. IsSpellableProgram (tree_of program)) }
+{
     let bytes = text.as_bytes();
     assert!(rt; bytes.len() < 100000);
     let tokens = lex(alloc, bytes)?;
@@ -121,6 +129,7 @@ fn an_unknown_name_is_told(rt: HostRuntime) -> Result<(), Fail> {
         ("a = [zz] * 0", 2),
         ("ttl0.foo(zz)", 2),
         ("at_mu(zz, 1)", 2),
+        ("b = True\n b += zz", 3),
     ];
     expect_faults_of_bodies(&rt, rt.alloc(), TypeKind::Unknown, &table)?;
     let later = "def main():\n f()\ndef f(): pass";
@@ -180,6 +189,7 @@ fn a_wrong_call_is_told(rt: HostRuntime) -> Result<(), Fail> {
         ("main(1)", 2),
         ("return 1", 2),
         ("with parallel:\n  return 1", 3),
+        ("with core_dma.record(\"p\"): core.reset(1)", 2),
     ];
     expect_faults_of_bodies(&rt, rt.alloc(), TypeKind::Arity, &arities)?;
     let without = "def f() -> int32:\n return\ndef main(): pass";
@@ -198,12 +208,21 @@ fn a_width_that_does_not_fit_is_told(rt: HostRuntime) -> Result<(), Fail> {
         ("x = 1\n for x in range(1, now_mu()): pass", 3),
         ("raw0.write(now_mu(), 1)", 2),
         ("raw0.write(now_mu(), True)", 2),
+        ("x = 1\n x = core_dma.get_handle(\"p\")", 3),
     ];
     expect_faults_of_bodies(&rt, rt.alloc(), TypeKind::Width, &table)?;
-    let result = "def f() -> int32: return now_mu()\ndef main(): pass";
-    expect_fault(&rt, rt.alloc(), result, 1, TypeKind::Width)?;
-    let argument = "def f(a: int32): pass\ndef main(): f(now_mu())";
-    expect_fault(&rt, rt.alloc(), argument, 2, TypeKind::Width)
+    let texts = [
+        ("def f() -> int32: return now_mu()\ndef main(): pass", 1),
+        (
+            "def f() -> int32:\n with parallel:\n  return now_mu()\ndef main(): pass",
+            3,
+        ),
+        ("def f(a: int32): pass\ndef main(): f(now_mu())", 2),
+    ];
+    for (text, line) in texts {
+        expect_fault(&rt, rt.alloc(), text, line, TypeKind::Width)?;
+    }
+    Ok(())
 }
 
 #[test]
@@ -263,11 +282,13 @@ fn another_mismatch_of_statements_is_told(rt: HostRuntime) -> Result<(), Fail> {
         ("a = [1]\n a = 1", 3),
         ("x = 1\n x = [1]", 3),
         ("x = 1\n x[0] = 1", 3),
+        ("x = 1\n x[0] += zz", 3),
         ("a = [1]\n a[0] = True", 3),
         ("a = [1]\n a[True] = 1", 3),
         ("a = [1]\n a[0] += True", 3),
         ("for i in range(True): pass", 2),
         ("for i in range(1, True): pass", 2),
+        ("for core in range(True): pass", 2),
         ("i = True\n for i in range(3): pass", 3),
     ];
     expect_faults_of_bodies(&rt, rt.alloc(), TypeKind::Mismatch, &table)?;
@@ -313,6 +334,18 @@ fn what_no_record_block_holds_is_told(rt: HostRuntime) -> Result<(), Fail> {
         ),
         ("with core_dma.record(\"p\"): set_dataset(\"d\", 1)", 2),
         ("with core_dma.record(\"p\"): main()", 2),
+        ("with core_dma.record(\"p\"): in0.gate_rising_mu(8)", 2),
+        ("with core_dma.record(\"p\"): in0.timestamp_mu(8)", 2),
+        ("with core_dma.record(\"p\"): core.get_rtio_counter_mu()", 2),
+        ("with core_dma.record(\"p\"): core.break_realtime()", 2),
+        ("with core_dma.record(\"p\"): core.wait_until_mu(8)", 2),
+        ("with core_dma.record(\"p\"): core_dma.playback(\"q\")", 2),
+        (
+            "with core_dma.record(\"p\"): core_dma.playback_handle(8)",
+            2,
+        ),
+        ("with core_dma.record(\"p\"): core_dma.get_handle(\"q\")", 2),
+        ("with core_dma.record(\"p\"): core_dma.erase(\"q\")", 2),
     ];
     expect_faults_of_bodies(&rt, rt.alloc(), TypeKind::LiveInRecord, &live)?;
     let called =
@@ -354,6 +387,7 @@ fn what_the_rules_allow_is_typed(rt: HostRuntime) -> Result<(), Fail> {
         "main()",
         "return",
         "in0.count(in0.gate_both_mu(8))",
+        "t = in0.gate_rising_mu(8)\n h = core_dma.get_handle(\"p\")\n core_dma.playback_handle(h)",
     ];
     for body in bodies {
         let text = format!(in rt.alloc(); "def main():\n {body}\n")?;

@@ -132,12 +132,12 @@ operation_takes get_handle = W.Text ∷ []
 operation_takes erase = W.Text ∷ []
 operation_takes _ = W.Int64 ∷ []
 
--- a builtin that asks the core for more than outputs and may not stand in a recording
+-- a builtin that asks the core for more than outputs or opens an input's gate, and may not stand in a recording
 abbrev pub builtin_is_live : Builtin → Bool
 builtin_is_live set_dataset = true
 builtin_is_live _ = false
 
--- a method that asks the core for more than outputs and may not stand in a recording
+-- a method that asks the core for more than outputs or opens an input's gate, and may not stand in a recording
 abbrev pub is_live : Operation → Bool
 is_live (on c) = false
 is_live (off c) = false

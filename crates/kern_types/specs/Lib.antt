@@ -2,6 +2,7 @@ pub mod Answers
 pub mod Before
 pub mod Calls
 pub mod CallsOf
+pub mod Checked
 pub mod Expressions
 pub mod Fits
 pub mod KnownOf

@@ -1,4 +1,4 @@
--- Functions that ask the core for outputs alone, and so may be called in a record block.
+-- Functions that have no live call and no record block, also in what they call, and so may be called in a record block.
 use Rattle.std.specs.Prelude.{List, [], ◌∷◌, ◌++◌, Bool, true, false, not, ◌&&◌, if◌then◌else◌, Option, Some, None}
 use Rattle.std.specs.List.{list_all}
 use Rattle.kern_syntax.specs.declared.statement.Target.{Target}
@@ -88,7 +88,8 @@ abbrev pub is_plain_target : List Bytes → Target → Bool
 is_plain_target plain (L.Variable x) = true
 is_plain_target plain (L.Element x i) = is_plain_expression plain (expression_of i)
 
--- a function is plain that asks the core for outputs alone, given those before it; its own calls don't count
+-- a function is plain that has no live call, no record block, and calls of plain functions only, given those before it; its
+-- own calls don't count
 abbrev pub is_plain_function : List Bytes → FunctionTree → Bool
 is_plain_function plain f = is_plain_block (plain ++ f.name ∷ []) f.body
 

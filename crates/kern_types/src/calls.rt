@@ -109,7 +109,7 @@ impl Builtin {
         }
     }
 
-    /// Whether it asks the core for more than outputs.
+    /// Whether it asks the core for more than outputs or opens an input's gate.
     pub fn is_live(self) -> bool
         ensures { result ≡ builtin_is_live (builtin_of self) }
     {
@@ -267,7 +267,7 @@ impl Operation {
         }
     }
 
-    /// Whether it asks the core for more than outputs.
+    /// Whether it asks the core for more than outputs or opens an input's gate.
     pub fn is_live(self) -> bool
         ensures { result ≡ is_live (operation_of self) }
     {

@@ -1,6 +1,8 @@
 // The checker of kernels.
 
 ghost use Rattle.std.specs.Prelude.{◌≡◌, IfOk, IfErr, OnOk, position, bytes_eq};
+ghost use Rattle.kern_syntax.specs.Grammatical.{IsGrammatical};
+ghost use Rattle.kern_syntax.specs.Spellable.{IsSpellableProgram};
 ghost use Rattle.kern_syntax.specs.TreeOf.{tree_of};
 ghost use Rattle.kern_types.specs.Answers.{IsEndOf};
 ghost use Rattle.kern_types.specs.Programs.{IsTyped, program_verdict, place_of_function};
@@ -11,7 +13,7 @@ use kern_syntax::{Function, Program};
 use std::alloc::Global;
 use std::marker::Model;
 
-/// A program that is typed, which contracts see as its functions.
+/// A program of the grammar, with its limits and those of its tokens, that is typed. Contracts see it as its functions.
 #[derive(Drop)]
 pub struct Checked {
     program: Program,
@@ -22,7 +24,7 @@ impl Model for Checked {
     ghost use Rattle.kern_syntax.specs.declared.program.Function.{Function};
     ghost use Rattle.kern_syntax.specs.contracts.statement.Block as block;
     ghost use Rattle.kern_syntax.specs.TreeOf.{tree_of};
-    ghost use Rattle.kern_types.specs.Programs.{IsTyped};
+    ghost use Rattle.kern_types.specs.Checked.{IsChecked};
     ghost use Rattle.std.specs.Coded.{codes};
 
     ghost Value = { List Function };
@@ -31,12 +33,15 @@ impl Model for Checked {
 
     ghost view = { λ c. c.program };
 
-    ghost invariant = { λ c. IsTyped (tree_of c.program) };
+    ghost invariant = { λ c. IsChecked (tree_of c.program) };
 }
 
-/// Checks the types of a program, by the rules of `docs/LANGUAGE.md`, and keeps it. Else the first fault in the order
-/// of evaluation is told with its line, or memory ran out.
+/// Checks the types of a program of the grammar, whose names, texts and integers are those of tokens, by the rules of
+/// `docs/LANGUAGE.md`, and keeps it. Else the first fault in the order of evaluation is told with its line, or memory
+/// ran out.
 pub fn check(alloc: Global, program: Program) -> Result<Checked, TypeEnd>
+    requires grammatical { IsGrammatical (tree_of program) }
+    requires spellable { IsSpellableProgram (tree_of program) }
     ensures kept { IfOk result (λ checked. checked ≡ program) }
     ensures typed { OnOk result (IsTyped (tree_of program)) }
     ensures fault { IfErr result (λ end. IsEndOf end (program_verdict (tree_of program))) }
@@ -46,9 +51,11 @@ pub fn check(alloc: Global, program: Program) -> Result<Checked, TypeEnd>
 }
 
 impl Checked {
-    /// The program.
+    /// The program, which is in the grammar, can be written in tokens, and is typed.
     pub fn program(&self) -> &Program
         ensures kept { result.now ≡ self.now }
+        ensures grammatical { IsGrammatical (tree_of result.now) }
+        ensures spellable { IsSpellableProgram (tree_of result.now) }
         ensures typed { IsTyped (tree_of result.now) }
     {
         &self.program

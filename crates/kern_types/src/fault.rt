@@ -25,7 +25,7 @@ pub enum TypeKind {
     BlockExit,
     /// A record block inside a record block.
     NestedRecord,
-    /// A call inside a record block that asks the core for more than outputs.
+    /// Inside a record block, a live call or a call of a function that isn't plain.
     LiveInRecord,
     /// No function `main` without parameters.
     NoMain,

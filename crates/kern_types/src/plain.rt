@@ -1,4 +1,4 @@
-// Functions that ask the core for outputs alone, and so may be called in a record block.
+// Functions that have no live call and no record block, also in what they call, and so may be called in a record block.
 
 ghost use Rattle.std.specs.Prelude.{◌≡◌, ◌++◌, [], ◌∷◌, None};
 ghost use Rattle.kern_syntax.specs.Tree.{no_more};

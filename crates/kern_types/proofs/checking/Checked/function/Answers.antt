@@ -13,7 +13,7 @@ returns-in_err-place c =
 
 pub overflow_cast-result : goal.overflow_cast-result
 overflow_cast-result c =
-    let typed = subst (λ fs. IsTyped (tree_of fs)) (sym c.functions.ensures) c.self.invariant in
+    let typed = subst (λ fs. IsTyped (tree_of fs)) (sym c.functions.ensures) c.self.invariant.typed in
     let few : c.in_ok-place.place < 256 = few-places c.functions.result.now c.args.name.now c.in_ok-place.place typed (sym c.in_ok-place.ensures) in
     omega (arith, few)
 
