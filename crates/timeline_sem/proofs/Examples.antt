@@ -1,12 +1,10 @@
 -- Small kernels, whose meanings are computed.
-use Rattle.std.proofs.Common.{◌≡◌, ℕ, List, [], ◌∷◌, Some, None, refl}
-use Rattle.std.specs.Prelude.{ℤ, pos, negsuc, codes}
+use Rattle.std.proofs.Common.{◌≡◌, List, [], ◌∷◌, Some, None, refl}
+use Rattle.std.specs.Prelude.{pos, negsuc, codes}
 use Rattle.std.specs.Int.{int_wrap}
 use Rattle.rtio_types.specs.declared.event.Event.{Event}
 use Rattle.rtio_types.specs.declared.outcome.Exc.TheVariants.{RTIOUnderflow, DMAError, ZeroDivisionError, IndexError, StackOverflow}
-use Rattle.rtio_types.specs.declared.request.Request.{Request}
 use Rattle.rtio_types.specs.declared.request.Request.TheVariants as Q
-use Rattle.rtio_types.specs.declared.request.Reply.{Reply}
 use Rattle.rtio_types.specs.declared.request.Reply.TheVariants as R
 use Rattle.rtio_types.specs.declared.request.Value.TheVariants.{Int, List as Items}
 use Rattle.kern_syntax.specs.declared.expression.BinaryOperator.TheVariants.{Add as Plus, Divide, Remainder, ShiftLeft}
@@ -15,33 +13,10 @@ use Rattle.kern_syntax.specs.declared.expression.Comparison.TheVariants.{Less}
 use Rattle.kern_syntax.specs.declared.statement.Augment.TheVariants as A
 use Rattle.kern_syntax.specs.declared.program.DeclaredType.TheVariants as D
 use Rattle.kern_syntax.specs.Tree as T
-use Rattle.kern_syntax.specs.Tree.{for_range, Bytes, Expression, integer, true_literal, variable, unary, binary, compare, disjunction, call, method, no_more, value_then, text_then, Statement, pass, evaluate, assign, assign_element, augment_element, assign_repeated, assign_list, if_then, no_else, while_do, parallel, sequential, record_as, try_do, Block, done, line_then, no_handler, except_then, ProgramTree}
+use Rattle.kern_syntax.specs.Tree.{for_range, integer, true_literal, variable, unary, binary, compare, disjunction, call, method, no_more, value_then, text_then, Statement, pass, evaluate, assign, assign_element, augment_element, assign_repeated, assign_list, if_then, no_else, while_do, parallel, sequential, record_as, try_do, no_handler, except_then, ProgramTree}
 use Rattle.timeline_sem.specs.declared.meant.MeantOutcome.TheVariants as M
-use Rattle.timeline_sem.specs.Programs.{Meaning, meaning}
-
--- statements as a block, all on line 1
-abbrev lines : List Statement → Block
-lines [] = done
-lines (s ∷ rest) = line_then 1 s (lines rest)
-
--- a program with one function, `main`
-abbrev main_of : List Statement → ProgramTree
-main_of body =
-    record { line = 1; name = codes "main"; parameters = []; result = None; body = lines body } ∷ []
-
-abbrev call_one : Bytes → ℕ → Statement
-call_one f n = evaluate (call f (value_then (integer n) no_more))
-
-abbrev pulse_one : Bytes → ℕ → Statement
-pulse_one object n = evaluate (method object (codes "pulse_mu") (value_then (integer n) no_more))
-
-abbrev do_method : Bytes → Bytes → Statement
-do_method object name = evaluate (method object name no_more)
-
--- an output at address 0
-abbrev out_at : ℕ → ℕ → ℕ → Request
-out_at stamp channel data_word =
-    Q.Out (record { channel = channel; address = 0; value = data_word; stamp = pos stamp })
+use Rattle.timeline_sem.specs.Programs.{meaning}
+use Rattle.timeline_sem.proofs.SmallKernels.{lines, main_of, call_one, pulse_one, do_method, out_at, run, set_d, set_d_request}
 
 -- a parallel block of a pulse and of a sequential block
 abbrev two_pulses : ProgramTree
@@ -54,9 +29,6 @@ two_pulses =
     ∷ sequential (lines (call_one (codes "delay_mu") 30 ∷ pulse_one (codes "ttl1") 200 ∷ []))
     ∷ []))
     ∷ [])
-
-abbrev run : ProgramTree → ℕ → List Reply → Meaning
-run program units replies = meaning program 0 [] (pos 0) units replies
 
 two_pulses_run : run two_pulses 10 (R.Done ∷ R.Done ∷ R.Done ∷ R.Done ∷ []) ≡ record { requests = out_at 1000 0 1 ∷ out_at 1100 0 0 ∷ out_at 1030 1 1 ∷ out_at 1230 1 0 ∷ []; cursor = pos 1230; units = 6; outcome = M.Returned }
 unfolding int_wrap
@@ -207,16 +179,6 @@ edges_run : run edges 9 (R.Stamp (pos 8) ∷ R.Stamp (pos 9) ∷ R.NoEdge ∷ R.
 unfolding int_wrap edges
 edges_run = refl
 
-abbrev method_one : Bytes → Bytes → Expression → Statement
-method_one object name e = evaluate (method object name (value_then e no_more))
-
--- the dataset `d` is set to a value
-abbrev set_d : Expression → Statement
-set_d e = evaluate (call (codes "set_dataset") (text_then (codes "d") (value_then e no_more)))
-
-abbrev set_d_request : ℤ → Request
-set_d_request n = Q.Data (codes "d") (Int n)
-
 -- a raw output: its address is taken modulo 256, and its data as 32 bits
 written : ProgramTree
 written =
@@ -255,7 +217,7 @@ unsaved_run : run unsaved 9 (R.Full ∷ []) ≡ record { requests = Q.Save (code
 unfolding int_wrap unsaved
 unsaved_run = refl
 
--- an index outside its array raises; the value is evaluated before the index
+-- an index outside its array raises
 outside : ProgramTree
 outside =
     main_of
@@ -295,7 +257,7 @@ computed_run : run computed 9 (R.Done ∷ R.Done ∷ R.Done ∷ []) ≡ record {
 unfolding int_wrap computed
 computed_run = refl
 
--- a function gives the value of its `return`, and 0 without one; its cursor stays
+-- a function gives the value of its `return`; its cursor stays
 called : ProgramTree
 called =
     record { line = 1; name = codes "twice"; parameters = record { name = codes "n"; declared = D.Int32 } ∷ []; result = Some D.Int32; body = lines (call_one (codes "delay_mu") 8 ∷ T.return (Some (binary Plus (variable (codes "n")) (variable (codes "n")))) ∷ call_one (codes "delay_mu") 1 ∷ []) }

@@ -21,10 +21,9 @@ use Rattle.kern_syntax.specs.declared.expression.BinaryOperator.{BinaryOperator}
 use Rattle.timeline_sem.specs.Actions.{State, Reason, break, continue, return, raised, budget, unanswered, Completion, normal, early, Action, go_on, give, skip, stop, take_unit_of, take_unit, next_reply_of, raise_if, ask, request, cursor_now, set_cursor, ◌>>=◌, ◌>>◌}
 use Rattle.timeline_sem.specs.Timeline.{delay, tell, inquire, append_event, submit_or_collect, output, gate, on_edge, count_edges, count_all_edges, play_events, play_reply, play, pulse_for, move_to_real_time, reset_core, no_value, perform, event_at}
 use Rattle.timeline_sem.specs.Numbers.{exact_result}
-use Rattle.timeline_sem.specs.Laws.{final}
 use Rattle.timeline_sem.specs.Expressions.{Callee, array_or_number, read, write as write_name, or_raise, place_in, with_item, list_in_value, number_in_value, read_element, write_element, operate, array_in, dataset_value, text_in, perform_builtin, perform_call, perform_method, unless_decided, expression, arguments}
-use Rattle.timeline_sem.proofs.Keeps.{Keeps, keeps_go_on, keeps_bind, keeps_then, keeps_give, keeps_stop, keeps_skip, keeps_take_unit, keeps_ask, keeps_cursor_now, keeps_set_cursor, keeps_append, keeps_output, keeps_count, keeps_read, keeps_write}
-use Rattle.timeline_sem.proofs.KeepsWhole.{AskedGrow, asked_grow}
+use Rattle.timeline_sem.proofs.Keeps.{Kept, Keeps, keeps_go_on, keeps_bind, keeps_then, keeps_give, keeps_stop, keeps_skip, keeps_take_unit, keeps_ask, keeps_cursor_now, keeps_set_cursor, keeps_append, keeps_output, keeps_count, keeps_read, keeps_write}
+use Rattle.timeline_sem.proofs.KeepsWhole.{AskedGrow, asked_grow, grown_from}
 
 module _ (further : List Reply) where
   -- the state with more replies left
@@ -39,12 +38,12 @@ module _ (further : List Reply) where
   Extended (early (return v) s) c = c ≡ early (return v) (with_more s)
   Extended (early (raised x) s) c = c ≡ early (raised x) (with_more s)
   Extended (early budget s) c = c ≡ early budget (with_more s)
-  Extended (early unanswered s) c = AskedGrow s (final c)
+  Extended (early unanswered s) c = Kept AskedGrow AskedGrow s c
 
   -- a part that does so from each state, and only adds requests
   pub record Extends {A : Type 0} (action : Action A) : Type 0 where
     pub from : (s : State) → Extended (action s) (action (with_more s))
-    pub grows : Keeps AskedGrow asked_grow action
+    pub grows : Keeps AskedGrow AskedGrow asked_grow action
 
   extended_go_on : {A B : Type 0} (c d : Completion A) (f : A → Action B) → Extended c d → ((a : A) → Extends (f a)) → Extended (go_on c f) (go_on d f)
   extended_go_on (normal a s) d f e k = subst (λ d'. Extended (f a s) (go_on d' f)) (sym e) ((k a).from s)
@@ -53,42 +52,42 @@ module _ (further : List Reply) where
   extended_go_on (early (return v) s) d f e k = ap (λ d'. go_on d' f) e
   extended_go_on (early (raised x) s) d f e k = ap (λ d'. go_on d' f) e
   extended_go_on (early budget s) d f e k = ap (λ d'. go_on d' f) e
-  extended_go_on (early unanswered s) d f e k = keeps_go_on AskedGrow asked_grow s d f e (λ a. (k a).grows)
+  extended_go_on (early unanswered s) d f e k = keeps_go_on AskedGrow AskedGrow asked_grow s d f e (λ a. (k a).grows)
 
   pub extends_bind : {A B : Type 0} {m : Action A} {f : A → Action B} → Extends m → ((a : A) → Extends (f a)) → Extends (m >>= f)
   extends_bind {m} {f} km kf =
       record {
         from = λ s. extended_go_on (m s) (m (with_more s)) f (km.from s) kf;
-        grows = keeps_bind AskedGrow asked_grow km.grows (λ a. (kf a).grows);
+        grows = keeps_bind AskedGrow AskedGrow asked_grow km.grows (λ a. (kf a).grows);
       }
 
   pub extends_then : {A B : Type 0} {m : Action A} {n : Action B} → Extends m → Extends n → Extends (m >> n)
   extends_then {m} {n} km kn =
       record {
         from = λ s. extended_go_on (m s) (m (with_more s)) (λ a. n) (km.from s) (λ a. kn);
-        grows = keeps_then AskedGrow asked_grow km.grows kn.grows;
+        grows = keeps_then AskedGrow AskedGrow asked_grow km.grows kn.grows;
       }
 
   pub extends_give : {A : Type 0} (a : A) → Extends (give a)
-  extends_give a = record { from = λ s. refl; grows = keeps_give AskedGrow asked_grow a }
+  extends_give a = record { from = λ s. refl; grows = keeps_give AskedGrow AskedGrow asked_grow a }
 
   pub extends_stop : {A : Type 0} (reason : Reason) → Extends (stop {A = A} reason)
-  extends_stop break = record { from = λ s. refl; grows = keeps_stop AskedGrow asked_grow break }
-  extends_stop continue = record { from = λ s. refl; grows = keeps_stop AskedGrow asked_grow continue }
-  extends_stop (return v) = record { from = λ s. refl; grows = keeps_stop AskedGrow asked_grow (return v) }
-  extends_stop (raised x) = record { from = λ s. refl; grows = keeps_stop AskedGrow asked_grow (raised x) }
-  extends_stop budget = record { from = λ s. refl; grows = keeps_stop AskedGrow asked_grow budget }
+  extends_stop break = record { from = λ s. refl; grows = keeps_stop AskedGrow AskedGrow asked_grow break asked_grow.same }
+  extends_stop continue = record { from = λ s. refl; grows = keeps_stop AskedGrow AskedGrow asked_grow continue asked_grow.same }
+  extends_stop (return v) = record { from = λ s. refl; grows = keeps_stop AskedGrow AskedGrow asked_grow (return v) asked_grow.same }
+  extends_stop (raised x) = record { from = λ s. refl; grows = keeps_stop AskedGrow AskedGrow asked_grow (raised x) asked_grow.same }
+  extends_stop budget = record { from = λ s. refl; grows = keeps_stop AskedGrow AskedGrow asked_grow budget asked_grow.same }
   extends_stop unanswered =
-      record { from = λ s. asked_grow.same s; grows = keeps_stop AskedGrow asked_grow unanswered }
+      record { from = λ s. asked_grow.same s; grows = keeps_stop AskedGrow AskedGrow asked_grow unanswered asked_grow.same }
 
   pub extends_skip : Extends skip
-  extends_skip = record { from = λ s. refl; grows = keeps_skip AskedGrow asked_grow }
+  extends_skip = record { from = λ s. refl; grows = keeps_skip AskedGrow AskedGrow asked_grow }
 
   pub extends_cursor_now : Extends cursor_now
-  extends_cursor_now = record { from = λ s. refl; grows = keeps_cursor_now AskedGrow asked_grow }
+  extends_cursor_now = record { from = λ s. refl; grows = keeps_cursor_now AskedGrow AskedGrow asked_grow }
 
   pub extends_set_cursor : (t : ℤ) → Extends (set_cursor t)
-  extends_set_cursor t = record { from = λ s. refl; grows = keeps_set_cursor AskedGrow asked_grow t }
+  extends_set_cursor t = record { from = λ s. refl; grows = keeps_set_cursor AskedGrow AskedGrow asked_grow t }
 
   extended_taken : (s : State) (n : ℕ) → Extended (take_unit_of n s) (take_unit_of n (with_more s))
   extended_taken s zero = refl
@@ -96,7 +95,7 @@ module _ (further : List Reply) where
 
   pub extends_take_unit : Extends take_unit
   extends_take_unit =
-      record { from = λ s. extended_taken s s.units; grows = keeps_take_unit AskedGrow asked_grow }
+      record { from = λ s. extended_taken s s.units; grows = keeps_take_unit AskedGrow AskedGrow asked_grow }
 
   -- a reply that is there is the same with more behind it
   extended_reply : (s : State) (x : Option Exc) (reply : Reply) → Extended (raise_if x reply s) (raise_if x reply (with_more s))
@@ -104,21 +103,22 @@ module _ (further : List Reply) where
   extended_reply s (Some x) reply = refl
 
   -- reading a reply asks nothing
-  asked_replied : (x : Option Exc) (reply : Reply) (s : State) → AskedGrow s (final (raise_if x reply s))
-  asked_replied None reply s = asked_grow.same s
-  asked_replied (Some x) reply s = asked_grow.same s
+  asked_replied : (x : Option Exc) (reply : Reply) (s : State) (others : List Reply) → Kept AskedGrow AskedGrow s (raise_if x reply (record s { replies = others }))
+  asked_replied None reply s others = asked_grow.same s
+  asked_replied (Some x) reply s others = asked_grow.same s
 
-  asked_answered : (s : State) (replies : List Reply) → AskedGrow s (final (go_on (next_reply_of replies s) (λ reply. raise_if (raised_by reply) reply)))
+  asked_answered : (s : State) (replies : List Reply) → Kept AskedGrow AskedGrow s (go_on (next_reply_of replies s) (λ reply. raise_if (raised_by reply) reply))
   asked_answered s [] = asked_grow.same s
-  asked_answered s (r ∷ others) = asked_replied (raised_by r) r (record s { replies = others })
+  asked_answered s (r ∷ others) = asked_replied (raised_by r) r s others
 
   extended_answer : (s : State) (replies : List Reply) → Extended (go_on (next_reply_of replies s) (λ reply. raise_if (raised_by reply) reply)) (go_on (next_reply_of (replies ++ further) (with_more s)) (λ reply. raise_if (raised_by reply) reply))
-  extended_answer s [] = asked_answered (with_more s) further
+  extended_answer s [] =
+      grown_from s (with_more s) _ (asked_grow.same s) (asked_answered (with_more s) further)
   extended_answer s (r ∷ others) = extended_reply (record s { replies = others }) (raised_by r) r
 
   pub extends_ask : (q : Request) → Extends (ask q)
   extends_ask q =
-      record { from = λ s. extended_answer (record s { asked = s.asked ++ q ∷ [] }) s.replies; grows = keeps_ask AskedGrow asked_grow q }
+      record { from = λ s. extended_answer (record s { asked = s.asked ++ q ∷ [] }) s.replies; grows = keeps_ask AskedGrow AskedGrow asked_grow q }
 
   pub extends_request : (q : Request) → Extends (request q)
   extends_request q = extends_then extends_take_unit (extends_ask q)
@@ -133,7 +133,7 @@ module _ (further : List Reply) where
   extends_delay d = extends_bind extends_cursor_now (λ t. extends_set_cursor _)
 
   extends_append : (event : Event) → Extends (append_event event)
-  extends_append event = record { from = λ s. refl; grows = keeps_append AskedGrow asked_grow event }
+  extends_append event = record { from = λ s. refl; grows = keeps_append AskedGrow AskedGrow asked_grow event }
 
   extends_submit : (c : Option (List Event)) (event : Event) → Extends (submit_or_collect c event)
   extends_submit None event = extends_tell (Q.Out event)
@@ -142,7 +142,7 @@ module _ (further : List Reply) where
   pub extends_output : (channel address : ℕ) (d : ℤ) → Extends (output channel address d)
   extends_output channel address d = record {
     from = λ s. (extends_submit s.collected (event_at s.cursor channel address d)).from s;
-    grows = keeps_output AskedGrow asked_grow channel address d;
+    grows = keeps_output AskedGrow AskedGrow asked_grow channel address d;
   }
 
   extends_gate : (channel : ℕ) (sensitivity d : ℤ) → Extends (gate channel sensitivity d)
@@ -186,7 +186,7 @@ module _ (further : List Reply) where
   pub extends_count : (q : Request) → Extends (count_all_edges q)
   extends_count q = record {
     from = λ s. (extends_count_edges s.units q (pos 0)).from s;
-    grows = keeps_count AskedGrow asked_grow q;
+    grows = keeps_count AskedGrow AskedGrow asked_grow q;
   }
 
   pub extends_perform : (op : Operation) (numbers : List ℤ) (text : Bytes) → Extends (perform op numbers text)
@@ -209,10 +209,10 @@ module _ (further : List Reply) where
   extends_perform erase numbers text = extends_no_value (extends_tell _)
 
   pub extends_read : (x : Bytes) → Extends (read x)
-  extends_read x = record { from = λ s. refl; grows = keeps_read AskedGrow asked_grow x }
+  extends_read x = record { from = λ s. refl; grows = keeps_read AskedGrow AskedGrow asked_grow x }
 
   pub extends_write : (x : Bytes) (new : Value) → Extends (write_name x new)
-  extends_write x new = record { from = λ s. refl; grows = keeps_write AskedGrow asked_grow x new }
+  extends_write x new = record { from = λ s. refl; grows = keeps_write AskedGrow AskedGrow asked_grow x new }
 
   pub extends_or_raise : {A : Type 0} (a : Option A) (x : Exc) → Extends (or_raise a x)
   extends_or_raise (Some a) x = extends_give a

@@ -18,7 +18,7 @@ use Rattle.timeline_sem.specs.Statements.{operator_of, when, either, after_turn,
 use Rattle.timeline_sem.specs.Laws.{RepliesExtend, GoesOn, final}
 use Rattle.timeline_sem.specs.Programs.{Meaning, meaning_of, opening, call_room, initial_values, leave_function, optional_body, function_call}
 use Rattle.rtio_types.specs.declared.request.Reply.{Reply}
-use Rattle.timeline_sem.proofs.KeepsWhole.{AskedGrow, asked_grow, keeps_after_turn, keeps_while, keeps_save_after, keeps_end_recording, keeps_recorded, keeps_after_try, keeps_attempt, keeps_left, keeps_body}
+use Rattle.timeline_sem.proofs.KeepsWhole.{kept_final, AskedGrow, asked_grow, grown_from, keeps_after_turn, keeps_while, keeps_save_after, keeps_end_recording, keeps_recorded, keeps_after_try, keeps_attempt, keeps_left, keeps_body}
 use Rattle.timeline_sem.proofs.Extends.{Extended, Extends, with_more, extends_bind, extends_then, extends_give, extends_stop, extends_skip, extends_take_unit, extends_ask, extends_cursor_now, extends_set_cursor, extends_read, extends_write, extends_read_element, extends_write_element, extends_operate, extends_expression}
 
 module _ (further : List Reply) where
@@ -37,13 +37,13 @@ module _ (further : List Reply) where
   extended_after_turn (early (return v) s) d again e k = ap (λ d'. after_turn d' again) e
   extended_after_turn (early (raised x) s) d again e k = ap (λ d'. after_turn d' again) e
   extended_after_turn (early budget s) d again e k = ap (λ d'. after_turn d' again) e
-  extended_after_turn (early unanswered s) d again e k = keeps_after_turn AskedGrow asked_grow s d again e k.grows
+  extended_after_turn (early unanswered s) d again e k = keeps_after_turn AskedGrow AskedGrow asked_grow s d again e k.grows
 
   extends_turn : (body again : Action ⊤) → Extends further body → Extends further again → Extends further (turn body again)
   extends_turn body again k l =
       extends_then further (extends_take_unit further) (record {
         from = λ s. extended_after_turn (body s) (body (with_more further s)) again (k.from s) l;
-        grows = record { from = λ s. keeps_after_turn AskedGrow asked_grow s (body s) again (k.grows.from s) l.grows };
+        grows = record { from = λ s. keeps_after_turn AskedGrow AskedGrow asked_grow s (body s) again (k.grows.from s) l.grows };
       })
 
   extends_while_turns : (n : ℕ) (condition : Action ℤ) (body : Action ⊤) → Extends further condition → Extends further body → Extends further (while_turns n condition body)
@@ -56,7 +56,7 @@ module _ (further : List Reply) where
   extends_while condition body k l =
       record {
         from = λ s. (extends_while_turns s.units condition body k l).from s;
-        grows = keeps_while AskedGrow asked_grow condition body k.grows l.grows;
+        grows = keeps_while AskedGrow AskedGrow asked_grow condition body k.grows l.grows;
       }
 
   extends_for_turns : (n : ℕ) (x : Bytes) (from : ℤ) (body : Action ⊤) → Extends further body → Extends further (for_turns n x from body)
@@ -73,7 +73,7 @@ module _ (further : List Reply) where
   extended_save_after q before (early (raised x) s) d e = ap (λ d'. save_after q (with_more further before) d') e
   extended_save_after q before (early budget s) d e = ap (λ d'. save_after q (with_more further before) d') e
   extended_save_after q before (early unanswered s) d e =
-      keeps_save_after AskedGrow asked_grow s q (with_more further before) d e
+      grown_from (leave_recording before s) s _ (asked_grow.same s) (keeps_save_after AskedGrow AskedGrow asked_grow s q (with_more further before) d e)
 
   extended_end_recording : (name : Bytes) (before : State) (c d : Completion ⊤) → Extended further c d → Extended further (end_recording name before c) (end_recording name (with_more further before) d)
   extended_end_recording name before (normal a s) d e =
@@ -84,7 +84,7 @@ module _ (further : List Reply) where
   extended_end_recording name before (early (raised x) s) d e = ap (λ d'. end_recording name (with_more further before) d') e
   extended_end_recording name before (early budget s) d e = ap (λ d'. end_recording name (with_more further before) d') e
   extended_end_recording name before (early unanswered s) d e =
-      keeps_end_recording AskedGrow asked_grow s name (with_more further before) d e
+      grown_from (leave_recording before s) s _ (asked_grow.same s) (keeps_end_recording AskedGrow AskedGrow asked_grow s name (with_more further before) d e)
 
   -- the state in which the body of a record block begins
   abbrev recording_from : State → State
@@ -94,7 +94,7 @@ module _ (further : List Reply) where
   extends_recorded name body k =
       record {
         from = λ s. extended_end_recording name s (body (recording_from s)) (body (recording_from (with_more further s))) (k.from (recording_from s));
-        grows = keeps_recorded AskedGrow asked_grow name body k.grows;
+        grows = keeps_recorded AskedGrow AskedGrow asked_grow name body k.grows;
       }
 
   extended_after_try : (c d : Completion ⊤) (handle : Exc → Action ⊤) → Extended further c d → ((x : Exc) → Extends further (handle x)) → Extended further (after_try c handle) (after_try d handle)
@@ -105,13 +105,13 @@ module _ (further : List Reply) where
   extended_after_try (early (return v) s) d handle e k = ap (λ d'. after_try d' handle) e
   extended_after_try (early budget s) d handle e k = ap (λ d'. after_try d' handle) e
   extended_after_try (early unanswered s) d handle e k =
-      keeps_after_try AskedGrow asked_grow s d handle e (λ x. (k x).grows)
+      keeps_after_try AskedGrow AskedGrow asked_grow s d handle e (λ x. (k x).grows)
 
   extends_attempt : (body : Action ⊤) (handle : Exc → Action ⊤) → Extends further body → ((x : Exc) → Extends further (handle x)) → Extends further (attempt body handle)
   extends_attempt body handle k l =
       record {
         from = λ s. extended_after_try (body s) (body (with_more further s)) handle (k.from s) l;
-        grows = keeps_attempt AskedGrow asked_grow body handle k.grows (λ x. (l x).grows);
+        grows = keeps_attempt AskedGrow AskedGrow asked_grow body handle k.grows (λ x. (l x).grows);
       }
 
   extends_if : (b : Bool) (first second : Action ⊤) → Extends further first → Extends further second → Extends further (if b then first else second)
@@ -186,13 +186,14 @@ module _ (further : List Reply) where
   extended_left values (early continue s) d e = ap (λ d'. leave_function values d') e
   extended_left values (early (raised x) s) d e = ap (λ d'. leave_function values d') e
   extended_left values (early budget s) d e = ap (λ d'. leave_function values d') e
-  extended_left values (early unanswered s) d e = keeps_left AskedGrow asked_grow s values d e
+  extended_left values (early unanswered s) d e =
+      grown_from (record s { values = values }) s (leave_function values d) (asked_grow.same s) (keeps_left AskedGrow AskedGrow asked_grow s values d e)
 
   pub extends_body : (program : ProgramTree) (callee : Callee) → ((f : Bytes) (numbers : List ℤ) → Extends further (callee f numbers)) → (f : Option FunctionTree) (args : List ℤ) → Extends further (optional_body program callee f args)
   extends_body program callee k (Some f) args =
       record {
         from = λ s. extended_left s.values _ _ ((extends_block (record { program = program; names = names_of program f }) callee k f.body).from (record s { values = initial_values (names_of program f) args }));
-        grows = keeps_body AskedGrow asked_grow program callee (λ g numbers. (k g numbers).grows) (Some f) args;
+        grows = keeps_body AskedGrow AskedGrow asked_grow program callee (λ g numbers. (k g numbers).grows) (Some f) args;
       }
   extends_body program callee k None args = extends_give further (pos 0)
 
@@ -219,7 +220,8 @@ goes_on further (early (return v) s) d e = same_meaning (meaning_of (early (retu
 goes_on further (early (raised x) s) d e = same_meaning (meaning_of (early (raised x) s)) (meaning_of d) (ap meaning_of e)
 goes_on further (early budget s) d e = same_meaning (meaning_of (early budget s)) (meaning_of d) (ap meaning_of e)
 goes_on further (early unanswered s) d e =
-    record { ended = λ not. absurd (not refl); asked = (e.0, requests_of_meaning d ∙ e.1) }
+    let more = kept_final AskedGrow s d e in
+    record { ended = λ not. absurd (not refl); asked = (more.0, requests_of_meaning d ∙ more.1) }
 
 -- what a program means under more replies goes on from what it means under fewer
 pub replies_extend_meanings : (program : ProgramTree) → RepliesExtend program

@@ -1,5 +1,7 @@
 -- What each step of the meaning keeps, the whole meaning keeps: a relation of states that is reflexive and transitive
--- and holds of each small change holds between the states before and after any part.
+-- and holds of each small change holds between the states before and after any part. Where a part ends for want of a
+-- reply a second relation holds: the request that lacks its reply brings it about, and small changes before and behind
+-- that request leave it.
 use Rattle.std.proofs.Common.{◌≡◌, ℕ, zero, suc, List, [], ◌∷◌, ◌++◌, Option, Some, None, refl}
 use Rattle.std.specs.Prelude.{ℤ, pos, ⊤, Bool, true, false, not}
 use Rattle.rtio_types.specs.declared.event.Event.{Event}
@@ -18,30 +20,64 @@ use Rattle.kern_types.specs.declared.types.ValueType.{ValueType}
 use Rattle.kern_types.specs.Calls.{Builtin, builtin_named, now_mu, at_mu, delay_mu, set_dataset, len, to_int32, to_int64, Operation, method_named, on, off, pulse, write, gate_rising, gate_falling, gate_both, timestamp, count, counter, break_realtime, reset, wait_until, playback, playback_handle, get_handle, erase}
 use Rattle.kern_types.specs.Types.{Scope, type_of, bits_of}
 use Rattle.kern_syntax.specs.declared.expression.BinaryOperator.{BinaryOperator}
-use Rattle.timeline_sem.specs.Actions.{State, Reason, budget, raised, Completion, normal, early, Action, go_on, give, skip, stop, take_unit_of, take_unit, next_reply_of, raise_if, ask, request, cursor_now, set_cursor, ◌>>=◌, ◌>>◌}
+use Rattle.timeline_sem.specs.Actions.{State, Reason, break, continue, return, budget, raised, unanswered, Completion, normal, early, Action, go_on, give, skip, stop, take_unit_of, take_unit, next_reply_of, raise_if, ask, request, cursor_now, set_cursor, ◌>>=◌, ◌>>◌}
 use Rattle.timeline_sem.specs.Timeline.{delay, tell, inquire, append_event, submit_or_collect, output, gate, on_edge, count_edges, count_all_edges, play_events, play_reply, play, pulse_for, move_to_real_time, reset_core, no_value, perform, event_at}
 use Rattle.timeline_sem.specs.Numbers.{exact_result}
-use Rattle.timeline_sem.specs.Laws.{final}
 use Rattle.timeline_sem.specs.Expressions.{Callee, array_or_number, read, write as write_name, or_raise, place_in, with_item, list_in_value, number_in_value, read_element, write_element, operate, array_in, dataset_value, text_in, perform_builtin, perform_call, perform_method, unless_decided, expression, arguments}
 
--- a relation that each small change of a state keeps
-pub record IsKept (R : State → State → Type 0) : Type 0 where
+-- a relation R that each small change of a state keeps, and a relation L that holds where a reply is lacking
+pub record IsKept (R L : State → State → Type 0) : Type 0 where
   pub same : (s : State) → R s s
   pub then' : {a b c : State} → R a b → R b c → R a c
+  pub then_lacking : {a b c : State} → R a b → L b c → L a c
+  pub lacking_then : {a b c : State} → L a b → R b c → L a c
   pub units : (s : State) (n : ℕ) → s.units ≡ suc n → R s (record s { units = n })
   pub reply : (s : State) (q : Request) (r : Reply) (rest : List Reply) → s.replies ≡ r ∷ rest → R s (record s { asked = s.asked ++ q ∷ []; replies = rest })
-  pub unanswered : (s : State) (q : Request) → s.replies ≡ [] → R s (record s { asked = s.asked ++ q ∷ [] })
+  pub unanswered : (s : State) (q : Request) → s.replies ≡ [] → L s (record s { asked = s.asked ++ q ∷ [] })
   pub cursor : (s : State) (t : ℤ) → R s (record s { cursor = t })
   pub values : (s : State) (v : List (Bytes × Value)) → R s (record s { values = v })
   pub collected : (s : State) (c : Option (List Event)) → R s (record s { collected = c })
 
-module _ (R : State → State → Type 0) (law : IsKept R) where
+-- what holds between a state and that of an end
+abbrev pub KeptEarly : (R L : State → State → Type 0) → Reason → State → State → Type 0
+KeptEarly R L unanswered s s' = L s s'
+KeptEarly R L break s s' = R s s'
+KeptEarly R L continue s s' = R s s'
+KeptEarly R L (return v) s s' = R s s'
+KeptEarly R L (raised x) s s' = R s s'
+KeptEarly R L budget s s' = R s s'
+
+abbrev pub Kept : (R L : State → State → Type 0) {A : Type 0} → State → Completion A → Type 0
+Kept R L s (normal a s') = R s s'
+Kept R L s (early reason s') = KeptEarly R L reason s s'
+
+module _ (R L : State → State → Type 0) (law : IsKept R L) where
   -- a part keeps the relation from each state
   pub record Keeps {A : Type 0} (action : Action A) : Type 0 where
-    pub from : (s : State) → R s (final (action s))
+    pub from : (s : State) → Kept R L s (action s)
 
-  pub keeps_go_on : {A B : Type 0} (s : State) (c : Completion A) (f : A → Action B) → R s (final c) → ((a : A) → Keeps (f a)) → R s (final (go_on c f))
-  keeps_go_on s (normal a s') f r k = law.then' r ((k a).from s')
+  early_after : (reason : Reason) {a b : State} (c : State) → R a b → KeptEarly R L reason b c → KeptEarly R L reason a c
+  early_after unanswered c r k = law.then_lacking r k
+  early_after break c r k = law.then' r k
+  early_after continue c r k = law.then' r k
+  early_after (return v) c r k = law.then' r k
+  early_after (raised x) c r k = law.then' r k
+  early_after budget c r k = law.then' r k
+
+  pub kept_after : {A : Type 0} (c : Completion A) {a b : State} → R a b → Kept R L b c → Kept R L a c
+  kept_after (normal v s) r k = law.then' r k
+  kept_after (early reason s) r k = early_after reason s r k
+
+  pub early_then : (reason : Reason) (a : State) {b c : State} → KeptEarly R L reason a b → R b c → KeptEarly R L reason a c
+  early_then unanswered a k r = law.lacking_then k r
+  early_then break a k r = law.then' k r
+  early_then continue a k r = law.then' k r
+  early_then (return v) a k r = law.then' k r
+  early_then (raised x) a k r = law.then' k r
+  early_then budget a k r = law.then' k r
+
+  pub keeps_go_on : {A B : Type 0} (s : State) (c : Completion A) (f : A → Action B) → Kept R L s c → ((a : A) → Keeps (f a)) → Kept R L s (go_on c f)
+  keeps_go_on s (normal a s') f r k = kept_after (f a s') r ((k a).from s')
   keeps_go_on s (early reason s') f r k = r
 
   pub keeps_bind : {A B : Type 0} {m : Action A} {f : A → Action B} → Keeps m → ((a : A) → Keeps (f a)) → Keeps (m >>= f)
@@ -53,8 +89,9 @@ module _ (R : State → State → Type 0) (law : IsKept R) where
   pub keeps_give : {A : Type 0} (a : A) → Keeps (give a)
   keeps_give a = record { from = law.same }
 
-  pub keeps_stop : {A : Type 0} (reason : Reason) → Keeps (stop {A = A} reason)
-  keeps_stop reason = record { from = law.same }
+  -- an early end keeps what its reason asks for, where that holds of an unchanged state
+  pub keeps_stop : {A : Type 0} (reason : Reason) → ((s : State) → KeptEarly R L reason s s) → Keeps (stop {A = A} reason)
+  keeps_stop reason same = record { from = same }
 
   pub keeps_skip : Keeps skip
   keeps_skip = record { from = law.same }
@@ -65,20 +102,21 @@ module _ (R : State → State → Type 0) (law : IsKept R) where
   pub keeps_set_cursor : (t : ℤ) → Keeps (set_cursor t)
   keeps_set_cursor t = record { from = λ s. law.cursor s t }
 
-  keeps_taken : (s : State) (n : ℕ) → s.units ≡ n → R s (final (take_unit_of n s))
+  keeps_taken : (s : State) (n : ℕ) → s.units ≡ n → Kept R L s (take_unit_of n s)
   keeps_taken s zero e = law.same s
   keeps_taken s (suc n) e = law.units s n e
 
   pub keeps_take_unit : Keeps take_unit
   keeps_take_unit = record { from = λ s. keeps_taken s s.units refl }
 
-  keeps_raise_if : (x : Option Exc) (reply : Reply) (s : State) → R s (final (raise_if x reply s))
+  keeps_raise_if : (x : Option Exc) (reply : Reply) (s : State) → Kept R L s (raise_if x reply s)
   keeps_raise_if None reply s = law.same s
   keeps_raise_if (Some x) reply s = law.same s
 
-  keeps_answer : (s : State) (q : Request) (replies : List Reply) → s.replies ≡ replies → R s (final (go_on (next_reply_of replies (record s { asked = s.asked ++ q ∷ [] })) (λ reply. raise_if (raised_by reply) reply)))
+  keeps_answer : (s : State) (q : Request) (replies : List Reply) → s.replies ≡ replies → Kept R L s (go_on (next_reply_of replies (record s { asked = s.asked ++ q ∷ [] })) (λ reply. raise_if (raised_by reply) reply))
   keeps_answer s q [] e = law.unanswered s q e
-  keeps_answer s q (r ∷ rest) e = law.then' (law.reply s q r rest e) (keeps_raise_if (raised_by r) r _)
+  keeps_answer s q (r ∷ rest) e =
+      kept_after (raise_if (raised_by r) r _) (law.reply s q r rest e) (keeps_raise_if (raised_by r) r _)
 
   pub keeps_ask : (q : Request) → Keeps (ask q)
   keeps_ask q = record { from = λ s. keeps_answer s q s.replies refl }
@@ -114,7 +152,7 @@ module _ (R : State → State → Type 0) (law : IsKept R) where
   keeps_on_edge n again k _ = k _
 
   keeps_count_edges : (units : ℕ) (q : Request) (n : ℤ) → Keeps (count_edges units q n)
-  keeps_count_edges zero q n = keeps_stop budget
+  keeps_count_edges zero q n = keeps_stop budget law.same
   keeps_count_edges (suc left) q n =
       keeps_bind (keeps_request q) (keeps_on_edge n (count_edges left q) (keeps_count_edges left q))
 
@@ -173,7 +211,7 @@ module _ (R : State → State → Type 0) (law : IsKept R) where
 
   pub keeps_or_raise : {A : Type 0} (a : Option A) (x : Exc) → Keeps (or_raise a x)
   keeps_or_raise (Some a) x = keeps_give a
-  keeps_or_raise None x = keeps_stop (raised x)
+  keeps_or_raise None x = keeps_stop (raised x) law.same
 
   pub keeps_read_element : (x : Bytes) (i : ℤ) → Keeps (read_element x i)
   keeps_read_element x i =

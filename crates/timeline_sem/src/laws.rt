@@ -1,9 +1,10 @@
 // What holds of the meaning of every kernel.
 
 ghost use Rattle.kern_syntax.specs.Tree.{ProgramTree};
-ghost use Rattle.timeline_sem.specs.Laws.{UnitsNeverRise, RequestsAreOnlyAdded, RepliesExtend};
+ghost use Rattle.timeline_sem.specs.Laws.{UnitsNeverRise, RequestsAreOnlyAdded, RepliesExtend, EachRequestTakesAReply};
 
-/// No function ends with more units than it began with, whatever it is answered.
+/// No function ends with more units than it began with, whatever it is answered, and no call with more than there were
+/// before it.
 pub fn units_never_rise()
     ensures { (program : ProgramTree) → UnitsNeverRise program }
 {}
@@ -17,4 +18,9 @@ pub fn requests_are_only_added()
 /// same, and else the requests asked so far are its first ones.
 pub fn replies_extend_meanings()
     ensures { (program : ProgramTree) → RepliesExtend program }
+{}
+
+/// Each request takes one of the replies, and only the last one may find none: then the meaning is unanswered.
+pub fn each_request_takes_a_reply()
+    ensures { (program : ProgramTree) → EachRequestTakesAReply program }
 {}
