@@ -43,6 +43,15 @@ fn a_failing_read_is_a_fault_and_loses_no_byte(rt: HostRuntime) -> Result<(), Fa
 }
 
 #[test]
+fn no_read_asks_for_more_than_4096_bytes(rt: HostRuntime) -> Result<(), Fail> {
+    let alloc = rt.alloc();
+    // 4,096 bytes, then 904, and the third read fails.
+    let mut tape = Tape::new(text(alloc, 5000)?, 10_000, vec![in alloc; 2]?);
+    assert_eq!(rt; read_all(alloc, &mut tape, 5000), Err(ReadEnd::Fault));
+    Ok(())
+}
+
+#[test]
 fn one_byte_more_than_the_maximum_is_too_long(rt: HostRuntime) -> Result<(), Fail> {
     let alloc = rt.alloc();
     for (len, max) in [(1, 0), (4096, 4095), (4097, 4096), (9000, 8999), (9000, 10)] {
