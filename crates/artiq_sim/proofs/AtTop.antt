@@ -8,13 +8,13 @@ use Rattle.rtio_types.specs.declared.request.Request.TheVariants as ask
 use Rattle.rtio_types.specs.declared.request.Reply.{Reply}
 use Rattle.rtio_types.specs.declared.request.Reply.TheVariants as answer
 use Rattle.sed_lanes.specs.Verdict.{Verdict, Underflow, Lane, Sequence, Undecided}
-use Rattle.sed_lanes.proofs.Histories.{undecided-earlier}
 use Rattle.rtio_core.specs.declared.data.Config.{Config}
 use Rattle.rtio_core.specs.declared.data.Entry.{Entry}
-use Rattle.rtio_core.specs.Entries.{judged_history, last_at, limit, open_session}
-use Rattle.rtio_core.specs.Reply.{is_decided, reply_to, reply_to_event, verdict_at}
+use Rattle.rtio_core.specs.Entries.{last_at, limit, open_session}
+use Rattle.rtio_core.specs.Reply.{is_decided, reply_to, reply_to_event}
 use Rattle.rtio_core.specs.Top.{first_decided, top}
 use Rattle.rtio_core.proofs.Laws.{least_from-before, least_from-passes}
+use Rattle.rtio_core.proofs.OutputsDecided.{output-decided-stays}
 use Rattle.artiq_sim.specs.Runs.{IsAtTop, AreAtTop}
 
 -- one entry more that stands at its top
@@ -36,17 +36,6 @@ decided-at-top config history request running counter is at last decided =
         let fails : is_decided config history request counter ≡ false = least_from-before (is_decided config history request) (last_at history) (config.horizon - last_at history) counter last early in
         let clash : true ≡ false = sym decided ∙ fails in absurd (cc)
     by-order alone waited (inr late) = omega (arith, alone, waited, late)
-
-output-stays : (now before : Verdict) → (now ≡ Undecided → before ≡ Undecided) → is_some (reply_to_event before) ≡ true → is_some (reply_to_event now) ≡ true
-output-stays Underflow before waits h = refl
-output-stays (Lane k) before waits h = refl
-output-stays Sequence before waits h = refl
-output-stays Undecided before waits h = let same : before ≡ Undecided = waits refl in sym (ap (λ (v : Verdict). is_some (reply_to_event v)) same) ∙ h
-
--- an output that is decided stays decided
-output-decided-stays : (config : Config) (history : List Entry) (e : Event) (from to : ℕ) → from ≤ to → is_decided config history (ask.Out e) from ≡ true → is_decided config history (ask.Out e) to ≡ true
-output-decided-stays config history e from to le h =
-    output-stays (verdict_at config history e to) (verdict_at config history e from) (undecided-earlier config.lanes config.depth (judged_history config history) e from to le) h
 
 -- an output that isn't decided where the core stops for it never is
 pub undecided-at-top : (config : Config) (history : List Entry) (e : Event) (running : ℕ × ℕ) (counter : ℕ) → open_session history ≡ Some running → counter ≡ top config history (Some (ask.Out e)) → last_at history ≤ counter → is_decided config history (ask.Out e) counter ≡ false → counter ≡ config.horizon

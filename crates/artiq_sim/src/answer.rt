@@ -1,6 +1,8 @@
 // What the program answers to a text.
 ghost use Rattle.std.specs.Prelude.{◌≤◌, length, IfOk, IsTrue};
 ghost use Rattle.std.specs.List.{list_all};
+ghost use Rattle.kern_syntax.specs.Grammatical.{IsGrammatical};
+ghost use Rattle.kern_syntax.specs.Spellable.{IsSpellableProgram};
 ghost use Rattle.kern_syntax.specs.TreeOf.{tree_of};
 ghost use Rattle.kern_types.specs.Programs.{IsTyped};
 ghost use Rattle.artiq_sim.specs.Texts.{IsKernel};
@@ -62,6 +64,8 @@ fn answer_to_program(
     command: Command,
     program: Program,
 ) -> Result<Answer, AllocError>
+    requires grammatical { IsGrammatical (tree_of program) }
+    requires spellable { IsSpellableProgram (tree_of program) }
     ensures { IfOk result (λ answer. IsAnswerToProgram command (tree_of program) answer) }
 {
     match check(alloc, program) {

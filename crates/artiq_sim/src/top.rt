@@ -54,6 +54,9 @@ pub fn sim_top<S: Source, K: Sink, E: Sink>(
         ⊎ (Rose (E.faults err.old) (E.faults err.new)
         × ErrFails (command_of (map string_bytes words.now)) (S.left source.old) (S.left source.new) (S.faults source.old) (S.faults source.new) (E.held err.old) (E.held err.new)
         × (K.held out.new ≡ K.held out.old)) }
+    // A write that failed gives 4 whatever else the status would be, and a read that failed 3.
+    ensures failed_write { result ≢ 4 → (K.faults out.new ≡ K.faults out.old) × (E.faults err.new ≡ E.faults err.old) }
+    ensures failed_read { result ≢ 3 → result ≢ 4 → S.faults source.new ≡ S.faults source.old }
     // Where that many bytes were taken of a source that tells its bytes, no other status comes.
     ensures too_long_only { (left : List ℕ) → S.left source.old ≡ Some left → TakesTooMany (S.left source.old) (S.left source.new)
         → (result ≡ 8) ⊎ (result ≡ 4) }
@@ -97,6 +100,7 @@ pub fn without_memory<E: Sink>(err: &mut E) -> u8
     ensures memory { result ≡ 5 → Appends (E.held err.old) (E.held err.new) (refusal_line memory) }
     ensures write_fault { result ≡ 4 → Rose (E.faults err.old) (E.faults err.new)
         × GrowsByPart (E.held err.old) (E.held err.new) (refusal_line memory) }
+    ensures failed_write { result ≢ 4 → E.faults err.new ≡ E.faults err.old }
     ensures statuses { (result ≡ 5) ⊎ (result ≡ 4) }
 {
     told(err, b"memory\n", 5)
@@ -109,6 +113,7 @@ fn told<K: Sink>(sink: &mut K, due: &[u8], status: u8) -> u8
     ensures whole { result ≡ status → Appends (K.held sink.old) (K.held sink.new) due.now }
     ensures part { result ≡ 4 → GrowsByPart (K.held sink.old) (K.held sink.new) due.now }
     ensures cause { result ≡ 4 → Rose (K.faults sink.old) (K.faults sink.new) }
+    ensures steady { result ≢ 4 → K.faults sink.new ≡ K.faults sink.old }
 {
     match write_all(sink, due) {
         Ok(()) => status,

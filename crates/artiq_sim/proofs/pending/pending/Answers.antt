@@ -22,7 +22,7 @@ loop-entry-preserved c =
     let entry : Entry = c.entry-item.result in
     let at = here c.history-entry-items.result.now c.loop-entry.entry-index c.entry-item.result c.loop-entry-test.true c.entry-item.is in
     let asked = step-asks c.args.core.now.config c.args.core.now.history items i entry c.in-Some.asked.0 c.in-Some.asked.1 c.history-entry-items.ensures.value at c.history-entry-items.ensures.core.lawful c.in-Some.ensures in
-    let are = step-numbers c.args.core.now.config c.args.core.now.history items i entry c.deref.result.now c.history-entry-items.ensures.value at (c.deref.ensures.value ∙ c.in_ok-missed.ensures ∙ ap numbers_of c.log.ensures.sequence) in
+    let are = step-numbers c.args.core.now.config c.args.core.now.history items i entry c.deref.result.now c.history-entry-items.ensures.value at (c.deref.ensures.value ∙ c.in_ok-missed.ensures ∙ ap numbers_of c.log.ensures.kinds.sequence) in
     let small = c.loop-entry.invariant.small in
     let fewer = c.loop-entry.invariant.fewer in
     elim c.if-is_next.branch [
