@@ -11,7 +11,7 @@ use std::alloc::{AllocError, Global};
 /// How a run ends.
 #[derive(Clone, Copy, Debug)]
 pub struct End {
-    /// How.
+    /// How the run ended.
     pub outcome: Outcome,
     /// How many instructions began.
     pub steps: u64,
