@@ -3,7 +3,7 @@ use Rattle.std.proofs.Common.{◌≡◌, ℕ, List, [], ◌∷◌, ◌++◌, len
 use Rattle.std.specs.Prelude.{suc}
 use Rattle.kern_syntax.specs.Tree.{Statement, evaluate, Block, done, line_then}
 use Rattle.artiq_sim.specs.declared.step.Step.{Step}
-use Rattle.artiq_sim.specs.Main.{statement_count}
+use Rattle.artiq_sim.specs.Bodies.{statement_count}
 use Rattle.artiq_sim.specs.Straight.{is_straight_statement, wrong_line_of}
 use Rattle.artiq_sim.specs.Steps.{call_of, AreSteps}
 use Rattle.artiq_sim.specs.Forms.{IsStraightBody}

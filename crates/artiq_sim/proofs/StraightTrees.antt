@@ -10,7 +10,7 @@ use Rattle.kern_syntax.specs.declared.expression.Argument.TheFolds.{the_lemmas}
 use Rattle.kern_syntax.specs.declared.statement.Stmt.{Stmt}
 use Rattle.kern_syntax.specs.declared.statement.StmtKind.TheFolds as statements
 use Rattle.kern_syntax.specs.Nodes.{statement_nodes, block_nodes}
-use Rattle.artiq_sim.specs.Main.{statement_count}
+use Rattle.artiq_sim.specs.Bodies.{statement_count}
 use Rattle.kern_syntax.specs.Tree.{Statement, pass, break, continue, return, evaluate, assign, assign_element, augment, augment_element, assign_repeated, assign_list, if_then, while_do, for_range, parallel, sequential, record_as, try_do, Block, done, line_then, Bytes, Expression, Arguments, no_more, value_then, text_then, call, method}
 use Rattle.kern_syntax.specs.TreeOf.{argument_of, arguments_of, line_of, lines_of, statement_of}
 use Rattle.artiq_sim.specs.Straight.{is_amount, is_output_channel, is_straight_call}

@@ -1,5 +1,5 @@
 pub mod Words
-pub mod Main
+pub mod Bodies
 pub mod Runs
 pub mod Steps
 pub mod Sessions

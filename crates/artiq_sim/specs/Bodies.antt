@@ -1,4 +1,4 @@
--- Bodies.
+-- How long a body is.
 use Rattle.std.specs.Prelude.{ℕ, zero, suc}
 use Rattle.kern_syntax.specs.Tree.{Block, done, line_then}
 
