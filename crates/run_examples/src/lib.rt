@@ -1,0 +1,6 @@
+//! Schedules step by step, worked out by hand from their rules. The crate has tests alone: the crates that they go
+//! through aren't proved again with them.
+#![tactic(auto)]
+
+#[cfg(test)]
+mod schedules;
