@@ -21,6 +21,16 @@ is_input_kind kind = false
 abbrev pub is_input : ℕ → Bool
 is_input channel = is_input_kind (kind_of_channel channel)
 
+-- a channel of this kind is an output
+abbrev pub is_output_kind : Option ChannelKind → Bool
+is_output_kind (Some Out) = true
+is_output_kind (Some OutRaw) = true
+is_output_kind kind = false
+
+-- the channel is an output of the board
+abbrev pub is_output : ℕ → Bool
+is_output channel = is_output_kind (kind_of_channel channel)
+
 -- on a channel of this kind an output replaces an earlier one of the same stamp
 abbrev pub replaces_at_kind : Option ChannelKind → Bool
 replaces_at_kind (Some OutRaw) = false

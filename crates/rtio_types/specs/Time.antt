@@ -1,12 +1,16 @@
--- Machine units, and coarse cycles of eight of them.
-use Rattle.std.specs.Prelude.{ℕ, ◌+◌, ◌*◌, ◌/◌, ℤ, pos, negsuc, ◌+ℤ◌}
+-- Machine units (mu), and coarse cycles of them.
+use Rattle.std.specs.Prelude.{ℕ, ◌+◌, ◌-◌, ◌*◌, ◌/◌, ℤ, pos, negsuc, ◌+ℤ◌}
 use Rattle.std.specs.Int.{int_wrap, w64}
 use Rattle.rtio_types.specs.declared.event.Event.{Event}
 use Rattle.rtio_types.specs.Integers.{floor_quotient}
 
--- the coarse cycle of a stamp: an eighth of it, rounded down
+-- how many machine units a coarse cycle has
+abbrev pub mu_per_cycle : ℕ
+mu_per_cycle = 8
+
+-- the coarse cycle of a stamp: its quotient by a cycle's units, rounded down
 abbrev pub coarse_of : ℤ → ℤ
-coarse_of stamp = floor_quotient stamp (pos 8)
+coarse_of stamp = floor_quotient stamp (pos mu_per_cycle)
 
 -- a number as it is, and 0 for a negative one
 abbrev pub at_least_zero : ℤ → ℕ
@@ -19,11 +23,11 @@ cycle_of event = at_least_zero (coarse_of event.stamp)
 
 -- what a counter of cycles reads in machine units
 abbrev pub reading : ℕ → ℕ
-reading counter = 8 * counter
+reading counter = mu_per_cycle * counter
 
 -- the least counter whose reading is at least a moment
 abbrev pub counter_reaching : ℤ → ℕ
-counter_reaching moment = (at_least_zero moment + 7) / 8
+counter_reaching moment = (at_least_zero moment + (mu_per_cycle - 1)) / mu_per_cycle
 
 -- a moment moved on by a time, wrapping at 64 bits
 abbrev pub later : ℤ → ℤ → ℤ

@@ -1,7 +1,7 @@
 // The channels of the board and their names.
 
 ghost use Rattle.std.specs.Prelude.{◌≡◌};
-ghost use Rattle.rtio_types.specs.Board.{kind_of_channel, channel_of_name};
+ghost use Rattle.rtio_types.specs.Board.{kind_of_channel, channel_of_name, has_address, is_input, is_output};
 
 /// What a channel of the board does. The board, its channels and their names are this project's own.
 #[derive(Clone, Copy, Debug, PartialEq, Eq)]
@@ -23,6 +23,36 @@ pub fn kind_of(channel: u8) -> Option<ChannelKind>
         16..24 => Some(ChannelKind::OutRaw),
         24..32 => Some(ChannelKind::Input),
         _ => None,
+    }
+}
+
+/// Whether the channel is an output of the board, raw or not.
+pub fn is_output(channel: u8) -> bool
+    ensures { result ≡ is_output channel }
+{
+    matches!(
+        kind_of(channel),
+        Some(ChannelKind::Out | ChannelKind::OutRaw)
+    )
+}
+
+/// Whether the channel is an input of the board.
+pub fn is_input(channel: u8) -> bool
+    ensures { result ≡ is_input channel }
+{
+    matches!(kind_of(channel), Some(ChannelKind::Input))
+}
+
+/// Whether the board has the channel, and the channel the address: an output has address 0, a raw output any, and an
+/// input address 2, which sets its sensitivity.
+pub fn has_address(channel: u8, address: u8) -> bool
+    ensures { result ≡ has_address (kind_of_channel channel) address }
+{
+    match kind_of(channel) {
+        Some(ChannelKind::Out) => address == 0,
+        Some(ChannelKind::OutRaw) => true,
+        Some(ChannelKind::Input) => address == 2,
+        None => false,
     }
 }
 

@@ -8,14 +8,12 @@ mod lists;
 mod name;
 mod outcome;
 mod request;
-#[cfg(test)]
-mod tests;
 mod time;
 
-pub use board::{ChannelKind, channel_named, kind_of};
+pub use board::{ChannelKind, channel_named, has_address, is_input, is_output, kind_of};
 pub use event::{Edge, Event};
 pub use lists::{EdgeList, IntList, Recording};
 pub use name::Name;
 pub use outcome::{Exc, Outcome};
 pub use request::{Reply, Request, Value, Waiting, fits, well_formed};
-pub use time::coarse;
+pub use time::{MU_PER_CYCLE, coarse, counter_reaching, cycle_of, reading};

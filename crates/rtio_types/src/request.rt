@@ -3,7 +3,7 @@
 ghost use Rattle.std.specs.Prelude.{◌≡◌, IfOk};
 ghost use Rattle.rtio_types.specs.Requests.{fits_request, is_well_formed, request_waiting};
 
-use crate::{ChannelKind, Event, IntList, Name, Recording, kind_of};
+use crate::{Event, IntList, Name, Recording, has_address, is_input};
 use std::alloc::{AllocError, Global};
 
 /// The value of a dataset.
@@ -185,7 +185,7 @@ pub fn well_formed(request: &Request) -> bool
 {
     match request {
         Request::Out(event) => event_of_board(event),
-        Request::Edge { channel, .. } => matches!(kind_of(*channel), Some(ChannelKind::Input)),
+        Request::Edge { channel, .. } => is_input(*channel),
         Request::Save { recording, .. } => {
             recording.events.len() < 1 << 32 && of_board(&recording.events)
         }
@@ -199,13 +199,7 @@ ghost use Rattle.rtio_types.specs.Board.{is_of_board, are_of_board};
 fn event_of_board(event: &Event) -> bool
     ensures { result ≡ is_of_board event.now }
 {
-    let address = event.address;
-    match kind_of(event.channel) {
-        Some(ChannelKind::Out) => address == 0,
-        Some(ChannelKind::OutRaw) => true,
-        Some(ChannelKind::Input) => address == 2,
-        None => false,
-    }
+    has_address(event.channel, event.address)
 }
 
 fn of_board(events: &[Event]) -> bool

@@ -1,12 +1,40 @@
-// Machine units (mu), and coarse cycles of eight of them.
+// Machine units (mu), and coarse cycles of them.
 
-ghost use Rattle.std.specs.Prelude.{◌≡◌};
-ghost use Rattle.rtio_types.specs.Time.{coarse_of};
+ghost use Rattle.std.specs.Prelude.{◌≡◌, ◌<◌, ◌^◌};
+ghost use Rattle.rtio_types.specs.Time.{coarse_of, counter_reaching, cycle_of, reading};
 
-/// The coarse cycle of a stamp in machine units (mu): an eighth of it, rounded down also where it is negative. One mu
-/// is a nanosecond, and the coarse clock has a cycle of 8 mu, as at the ARTIQ manual's usual settings.
+use crate::Event;
+
+/// How many machine units (mu) a coarse cycle has. One mu is a nanosecond, and a cycle of the coarse clock has 8 mu, as
+/// at the ARTIQ manual's usual settings.
+pub const MU_PER_CYCLE: u64 = 8;
+
+/// The coarse cycle of a stamp in mu, rounded down also where the stamp is negative.
 pub fn coarse(stamp: i64) -> i64
     ensures { result ≡ coarse_of stamp }
 {
-    stamp.div_euclid(8)
+    stamp.div_euclid(MU_PER_CYCLE as i64)
+}
+
+/// The cycle of an event; one before cycle 0 counts as 0, since no counter is below it.
+pub fn cycle_of(event: &Event) -> u64
+    ensures cycle { result ≡ cycle_of event.now }
+    ensures small { result < 2 ^ 60 }
+{
+    coarse(event.stamp).max(0) as u64
+}
+
+/// What a counter of cycles reads, in mu.
+pub fn reading(counter: u64) -> u64
+    requires { counter < 2 ^ 61 }
+    ensures { result ≡ reading counter }
+{
+    MU_PER_CYCLE * counter
+}
+
+/// The least counter that reads at least this moment (mu).
+pub fn counter_reaching(moment: i64) -> u64
+    ensures { result ≡ counter_reaching moment }
+{
+    (moment.max(0) as u64).div_ceil(MU_PER_CYCLE)
 }

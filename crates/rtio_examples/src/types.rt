@@ -1,14 +1,15 @@
-// Values of the specification, and each call that takes memory once.
+// Stamps, cycles, channels, names, requests and replies, and each copy once.
 
-use crate::{
+use rtio_types::{
     ChannelKind, Edge, EdgeList, Event, IntList, Name, Recording, Reply, Request, Value, Waiting,
-    channel_named, coarse, fits, kind_of, well_formed,
+    channel_named, coarse, counter_reaching, cycle_of, fits, has_address, is_input, is_output,
+    kind_of, reading, well_formed,
 };
 use std::alloc::{AllocError, Global};
 use std::test::Fail;
 
 #[test]
-fn a_cycle_is_an_eighth_of_a_stamp_rounded_down(rt: HostRuntime) {
+fn a_cycle_has_8_mu(rt: HostRuntime) {
     let cases = [
         (0, 0),
         (7, 0),
@@ -21,6 +22,18 @@ fn a_cycle_is_an_eighth_of_a_stamp_rounded_down(rt: HostRuntime) {
     ];
     for (stamp, cycle) in cases {
         assert_eq!(rt; coarse(stamp), cycle, "of {stamp}");
+        let event = Event {
+            stamp,
+            ..output(0, 0)
+        };
+        let counted = if cycle < 0 { 0 } else { cycle as u64 };
+        assert_eq!(rt; cycle_of(&event), counted, "of an event at {stamp}");
+    }
+    for (counter, reads) in [(0, 0), (1, 8), (134217728, 1073741824)] {
+        assert_eq!(rt; reading(counter), reads, "of {counter}");
+    }
+    for (moment, counter) in [(-9, 0), (0, 0), (1, 1), (8, 1), (9, 2)] {
+        assert_eq!(rt; counter_reaching(moment), counter, "of {moment}");
     }
 }
 
@@ -60,6 +73,9 @@ fn channels_are_outputs_raw_outputs_and_inputs(rt: HostRuntime) {
     ];
     for (channel, kind) in cases {
         assert_eq!(rt; kind_of(channel), kind, "of {channel}");
+        let is_in = kind == Some(ChannelKind::Input);
+        assert_eq!(rt; is_input(channel), is_in, "{channel}");
+        assert_eq!(rt; is_output(channel), kind.is_some() && !is_in, "{channel}");
     }
 }
 
@@ -108,40 +124,45 @@ fn recording(alloc: Global, channel: u8) -> Result<Recording, AllocError> {
 fn a_reply_fits_its_request(rt: HostRuntime) -> Result<(), Fail> {
     let alloc = rt.alloc();
     let name = Name::read(b"p").expect(&rt, "a name");
-    let edge = Request::Edge {
+    let edge = || Request::Edge {
         channel: 24,
         up_to: 50,
     };
-    assert!(rt; fits(&Request::Out(output(0, 0)), &Reply::Underflow));
-    assert!(rt; !fits(&Request::Out(output(0, 0)), &Reply::Time(0)));
-    assert!(rt; !fits(&Request::Counter, &Reply::Done));
-    assert!(rt; fits(&Request::Reset, &Reply::Time(-1)));
-    assert!(rt; !fits(&Request::Wait { until: 8 }, &Reply::Time(8)));
-    assert!(rt; fits(&edge, &Reply::Stamp(0)));
-    assert!(rt; !fits(&edge, &Reply::Stamp(-1)));
-    assert!(rt; !fits(&edge, &Reply::Done));
-    assert!(rt; !fits(&Request::Fetch { name }, &Reply::OldHandle));
-    assert!(rt; !fits(&Request::FetchHandle { handle: 0 }, &Reply::NoTrace));
-    assert!(rt; fits(&Request::Handle { name }, &Reply::Handle(-1)));
-    assert!(rt; !fits(&Request::Erase { name }, &Reply::Full));
-    assert!(rt;
-        fits(
-            &Request::Fetch { name },
-            &Reply::Trace(recording(alloc, 15)?)
-        )
-    );
-    assert!(rt;
-        !fits(
-            &Request::Fetch { name },
-            &Reply::Trace(recording(alloc, 32)?)
-        )
-    );
-    let save = Request::Save {
-        name,
-        recording: recording(alloc, 15)?,
+    let save = || -> Result<Request, AllocError> {
+        Ok(Request::Save {
+            name,
+            recording: recording(alloc, 15)?,
+        })
     };
-    assert!(rt; fits(&save, &Reply::Full));
-    assert!(rt; !fits(&save, &Reply::NoTrace));
+    let cases = [
+        (Request::Out(output(0, 0)), Reply::Underflow, true),
+        (Request::Out(output(0, 0)), Reply::Time(0), false),
+        (Request::Counter, Reply::Done, false),
+        (Request::Reset, Reply::Time(-1), true),
+        (Request::Wait { until: 8 }, Reply::Time(8), false),
+        (edge(), Reply::Stamp(0), true),
+        (edge(), Reply::Stamp(-1), false),
+        (edge(), Reply::Done, false),
+        (Request::Fetch { name }, Reply::OldHandle, false),
+        (Request::FetchHandle { handle: 0 }, Reply::NoTrace, false),
+        (Request::Handle { name }, Reply::Handle(-1), true),
+        (Request::Erase { name }, Reply::Full, false),
+        (
+            Request::Fetch { name },
+            Reply::Trace(recording(alloc, 15)?),
+            true,
+        ),
+        (
+            Request::Fetch { name },
+            Reply::Trace(recording(alloc, 32)?),
+            false,
+        ),
+        (save()?, Reply::Full, true),
+        (save()?, Reply::NoTrace, false),
+    ];
+    for (request, reply, is_fit) in &cases {
+        assert_eq!(rt; fits(request, reply), *is_fit, "{reply:?} to {request:?}");
+    }
     Ok(())
 }
 
@@ -159,6 +180,11 @@ fn a_request_is_of_the_board(rt: HostRuntime) -> Result<(), Fail> {
     for (channel, address, is_of_board) in cases {
         let request = Request::Out(output(channel, address));
         assert_eq!(rt; well_formed(&request), is_of_board, "{channel} {address}");
+        assert_eq!(rt;
+            has_address(channel, address),
+            is_of_board,
+            "{channel} {address}"
+        );
     }
     for (channel, is_input) in [(23, false), (24, true), (31, true), (32, false)] {
         let request = Request::Edge { channel, up_to: 0 };

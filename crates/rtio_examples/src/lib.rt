@@ -1,0 +1,6 @@
+//! Values, requests and histories of real-time input and output beside what they come to, worked out by hand from the
+//! rules. The crate has tests alone: the crates that they go through aren't proved again with them.
+#![tactic(auto)]
+
+#[cfg(test)]
+mod types;
