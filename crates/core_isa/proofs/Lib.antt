@@ -19,4 +19,6 @@ pub mod Raises
 pub mod Ready
 pub mod Reopened
 pub mod Safe
+pub mod UnitsTaken
 pub mod Weights
+pub mod Within

@@ -5,4 +5,5 @@ pub mod MarkTests
 pub mod Runs
 pub mod Sound
 pub mod Steps
+pub mod Units
 pub mod WellAsked

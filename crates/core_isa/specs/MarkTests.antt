@@ -1,4 +1,5 @@
--- The same conditions on marks as tests, which compute: what a verifier answers.
+-- The conditions of Marks stated a second time, as tests that compute, for the proofs of a verifier. The law
+-- `tests_decide_marks` says that they are the same.
 use Rattle.std.specs.Prelude.{ℕ, ◌+◌, ◌-◌, Bool, true, false, not, ◌||◌, ◌&&◌, ◌==◌, nat_le, nat_lt, length, slice_get, Option, Some, None}
 use Rattle.rtio_types.specs.declared.board.ChannelKind.{ChannelKind}
 use Rattle.rtio_types.specs.declared.board.ChannelKind.TheVariants as K

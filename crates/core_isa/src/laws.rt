@@ -6,6 +6,7 @@ ghost use Rattle.core_isa.specs.Falling.{HasOneRun, RunsEnd, StepsFall};
 ghost use Rattle.core_isa.specs.Marks.{HasOrder, IsRightPlace, Marked};
 ghost use Rattle.core_isa.specs.MarkTests.{is_right_place};
 ghost use Rattle.core_isa.specs.Sound.{BeginsSound, NeverStuck, StepsStaySound};
+ghost use Rattle.core_isa.specs.Units.{RequestsTakeUnits};
 ghost use Rattle.core_isa.specs.WellAsked.{AsksWell};
 
 /// The tests of the marks, which compute, decide the conditions on marks at every place.
@@ -47,4 +48,9 @@ pub fn one_end()
 /// Under replies that fit, and with units of 32 bits, each request of a run of marked code is well formed.
 pub fn marked_code_asks_well()
     ensures { (code : Code) → Marked code → AsksWell code }
+{}
+
+/// The requests of a run of any code and the units that it leaves are together at most the units that it began with.
+pub fn requests_take_units()
+    ensures { (code : Code) → RequestsTakeUnits code }
 {}

@@ -5,13 +5,11 @@ mod code;
 mod instr;
 mod laws;
 mod lists;
-#[cfg(test)]
-mod tests;
 
 pub use code::{Code, CodeFunction, CodeLine, Mark};
 pub use instr::Instr;
 pub use laws::{
-    marked_code_asks_well, marked_code_ends, marked_code_is_never_stuck, one_end, runs_begin_sound,
-    steps_fall, steps_stay_sound, tests_decide_marks,
+    marked_code_asks_well, marked_code_ends, marked_code_is_never_stuck, one_end,
+    requests_take_units, runs_begin_sound, steps_fall, steps_stay_sound, tests_decide_marks,
 };
 pub use lists::{CodeFunctionList, CodeLineList, NameList};

@@ -1,6 +1,6 @@
 // Each list gives back what it is made of.
 
-use crate::{CodeFunction, CodeFunctionList, CodeLine, CodeLineList, Instr, Mark, NameList};
+use core_isa::{CodeFunction, CodeFunctionList, CodeLine, CodeLineList, Instr, Mark, NameList};
 use rtio_types::Name;
 use std::test::Fail;
 
