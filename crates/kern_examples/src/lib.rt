@@ -8,4 +8,6 @@ mod faults;
 #[cfg(test)]
 mod texts;
 #[cfg(test)]
+mod tokens;
+#[cfg(test)]
 mod types;

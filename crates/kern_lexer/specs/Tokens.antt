@@ -1,4 +1,4 @@
--- A plain function that only the code's proof goes by; Answers.antt says what a text has, and a law that this gives it.
+-- Stated a second time for the proof's sake: the tokens of a text, by going over its lines as the code does. What a text has is said in Answers.antt; a law says that both are the same.
 use Rattle.std.specs.Prelude.{ℕ, suc, ◌+◌, List, [], ◌∷◌, ◌++◌, Option, Some, None, Result, Ok, Err, drop, length, map, replicate, if◌then◌else◌}
 use Rattle.kern_lexer.specs.Brackets.{open_behind}
 use Rattle.kern_lexer.specs.Bytes.{Bytes}

@@ -1,3 +1,5 @@
+//! What is wrong with a text that has no tokens.
+
 ghost use Rattle.std.specs.Prelude.{◌≡◌};
 
 use std::alloc::AllocError;

@@ -1,3 +1,5 @@
+//! What stands at the front of a line's bytes.
+
 ghost use Rattle.std.specs.Prelude.{◌≡◌, ◌<◌, length};
 ghost use Rattle.std.specs.List.{prefix_len};
 ghost use Rattle.kern_lexer.specs.Bytes.{is_word_byte};

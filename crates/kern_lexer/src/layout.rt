@@ -1,3 +1,5 @@
+//! What a line leaves to the next: open blocks and open brackets.
+
 ghost use Rattle.std.specs.Prelude.{◌≡◌, reverse, OnOk};
 ghost use Rattle.kern_lexer.specs.Brackets.{open_after, without_last};
 

@@ -1,3 +1,5 @@
+//! Going over the lines of a text.
+
 ghost use Rattle.std.specs.Prelude.{◌≡◌, ◌<◌, ◌^◌, ◌++◌, ◌∷◌, [], List, IfErr, IfOk, MatchResult, OnOk, length, replicate};
 ghost use Rattle.kern_lexer.specs.Answers.{HasFault, HasTokens, IsEndOf, IsEndAt, IsMemory};
 ghost use Rattle.kern_lexer.specs.Faults.{LexFault};

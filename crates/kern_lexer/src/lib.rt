@@ -24,6 +24,3 @@ pub use laws::{
 };
 pub use lexing::lex;
 pub use token::{Key, Sign, Token, TokenKind};
-
-#[cfg(test)]
-mod tests;

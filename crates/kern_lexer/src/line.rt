@@ -1,3 +1,5 @@
+//! Reading a line: its margin, its words and its end.
+
 ghost use Rattle.std.specs.Prelude.{◌≡◌, ◌+◌, ◌<◌, ◌^◌, ◌++◌, Ok, IfErr, OnOk, ◌==◌, drop, length, position, reverse};
 ghost use Rattle.kern_lexer.specs.Lines.{without_comment, without_return};
 ghost use Rattle.kern_lexer.specs.Steps.{EndsReading, left_of, line_after};

@@ -1,3 +1,5 @@
+//! The leading spaces of a line against the widths that are open.
+
 ghost use Rattle.std.specs.Prelude.{◌≡◌, ◌+◌, ◌-◌, ◌<◌, ◌^◌, ◌++◌, Ok, IfErr, OnOk, drop, length, replicate, reverse, vec_len};
 ghost use Rattle.kern_lexer.specs.Margins.{closed_down_to, top_of, width_of};
 ghost use Rattle.kern_lexer.specs.Steps.{EndsReading, left_of, margin_marked, margin_read};

@@ -1,3 +1,5 @@
+//! How keywords and signs are spelled, and read.
+
 ghost use Rattle.std.specs.Prelude.{◌≡◌};
 ghost use Rattle.kern_lexer.specs.Keys.{key_text, key_of};
 ghost use Rattle.kern_lexer.specs.Signs.{sign_text, sign_at};
@@ -26,7 +28,7 @@ const KEYS: [Key; 19] = [
     Key::False,
 ];
 
-// Those of two bytes first, so that the longest sign is met first.
+/// Those of two bytes first, so that the longest sign is met first.
 const SIGNS: [Sign; 29] = [
     Sign::AddAssign,
     Sign::SubtractAssign,

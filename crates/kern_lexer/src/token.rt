@@ -1,3 +1,5 @@
+//! Tokens.
+
 /// The words that are keywords and no names. They are Python's, as far as kernels use them.
 #[derive(Clone, Copy, PartialEq, Eq, Debug, Drop)]
 pub enum Key {

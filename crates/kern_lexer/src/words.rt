@@ -1,3 +1,5 @@
+//! Reading the words of a line.
+
 ghost use Rattle.std.specs.Prelude.{◌≡◌, ◌+◌, ◌<◌, ◌≤◌, ◌^◌, ◌++◌, ◌∷◌, [], Ok, IfOk, IfErr, OnOk, length, reverse};
 ghost use Rattle.kern_lexer.specs.Steps.{EndsReading, step_from, words_read};
 

@@ -1,4 +1,6 @@
-use crate::{Key, LexEnd, LexKind, Sign, Token, TokenKind, lex};
+// Texts beside their tokens, and texts without tokens beside their first faults.
+
+use kern_lexer::{Key, LexEnd, LexKind, Sign, Token, TokenKind, lex};
 use std::alloc::Global;
 use std::process::Abort;
 use std::test::Fail;
