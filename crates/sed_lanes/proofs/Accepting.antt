@@ -13,7 +13,7 @@ use Rattle.std.proofs.lemmas.List.Sorted.{IsPermutation-append_right, IsPermutat
 use Rattle.std.proofs.lemmas.Map.Keys.{IsDistinct-IsPermutation, IsDistinct-cons}
 use Rattle.rtio_types.specs.declared.event.Event.{Event}
 use Rattle.rtio_types.specs.Time.{cycle_of}
-use Rattle.sed_lanes.specs.Lanes.{LaneState, LanesState, empty_lane, is_full, is_later, may_enter, next_lane, with_accepted}
+use Rattle.sed_lanes.specs.Lanes.{LaneState, LanesState, empty_lane, is_full_lane, is_later, may_enter, next_lane, with_accepted}
 use Rattle.sed_lanes.specs.Calls.{is_new_number}
 use Rattle.sed_lanes.specs.Rows.{AreLanes, IsLane, all_held, row_state}
 use Rattle.sed_lanes.specs.declared.lane.Lane.{Lane}
@@ -81,7 +81,7 @@ pub row-at : (lanes : List Lane) (k : ℕ) (old : Lane) → k < length lanes →
 row-at lanes k old lt is = get_or-map row_state lanes k old empty_lane lt ∙ ap row_state (sym is)
 
 -- they are still lanes
-pub took-lanes : (depth current k : ℕ) (lanes : List Lane) (old new : Lane) (number : ℕ) (e : Event) → AreLanes depth current lanes → k < length lanes → old ≡ get_or lanes k old → Took old new number e → is_full (state_of depth current lanes) k ≡ false → may_enter (state_of depth current lanes) k e ≡ true → is_new_number number (state_of depth current lanes) ≡ true → AreLanes depth k (set lanes k new)
+pub took-lanes : (depth current k : ℕ) (lanes : List Lane) (old new : Lane) (number : ℕ) (e : Event) → AreLanes depth current lanes → k < length lanes → old ≡ get_or lanes k old → Took old new number e → is_full_lane (state_of depth current lanes) k ≡ false → may_enter (state_of depth current lanes) k e ≡ true → is_new_number number (state_of depth current lanes) ≡ true → AreLanes depth k (set lanes k new)
 took-lanes depth current k lanes old new number e are lt is took room later all =
     let row : get_or (map row_state lanes) k empty_lane ≡ row_state old = row-at lanes k old lt is in
     let spare : nat_le depth (length old.held.items) ≡ false = ap (λ (r : LaneState). nat_le depth (length r.held)) (sym row) ∙ room in

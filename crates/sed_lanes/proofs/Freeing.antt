@@ -7,7 +7,7 @@ use Rattle.rtio_types.specs.declared.event.Event.{Event}
 use Rattle.rtio_types.specs.Time.{cycle_of}
 use Rattle.sed_lanes.specs.Counters.{NeverFall}
 use Rattle.sed_lanes.specs.Judged.{LaneStep, accepted_into, current_lane, judged, lane_of, lanes_after, last_cycle}
-use Rattle.sed_lanes.specs.Lanes.{LaneState, LanesState, is_full, is_later, lane_at, may_enter, next_lane}
+use Rattle.sed_lanes.specs.Lanes.{LaneState, LanesState, is_full_lane, is_later, lane_at, may_enter, next_lane}
 use Rattle.sed_lanes.specs.Rows.{are_rising}
 use Rattle.sed_lanes.specs.Verdict.{Verdict, Underflow, Lane, Sequence, Undecided, current_takes, frees_at, until, verdict}
 use Rattle.sed_lanes.specs.Waits.{WaitsUntil}
@@ -72,7 +72,7 @@ fewer cycle (p ∷ rest) last some is =
 abbrev lanes_then : (lanes depth : ℕ) → List LaneStep → ℕ → LanesState
 lanes_then lanes depth steps counter = lanes_after lanes depth (judged lanes depth steps) counter
 
-frees-before : (lanes depth : ℕ) (steps : List LaneStep) (counter k : ℕ) (e : Event) → 1 ≤ lanes → 1 ≤ depth → k < lanes → is_full (lanes_then lanes depth steps counter) k ≡ true → may_enter (lanes_then lanes depth steps counter) k e ≡ true → frees_at (lane_at (lanes_then lanes depth steps counter) k) < cycle_of e
+frees-before : (lanes depth : ℕ) (steps : List LaneStep) (counter k : ℕ) (e : Event) → 1 ≤ lanes → 1 ≤ depth → k < lanes → is_full_lane (lanes_then lanes depth steps counter) k ≡ true → may_enter (lanes_then lanes depth steps counter) k e ≡ true → frees_at (lane_at (lanes_then lanes depth steps counter) k) < cycle_of e
 frees-before lanes depth steps counter k e some deep lt full enters =
     let events : List (ℕ × Event) = accepted_into k (judged lanes depth steps) in
     let lane : lane_at (lanes_then lanes depth steps counter) k ≡ lane_of counter events = lane_at-lanes_after lanes depth (judged lanes depth steps) counter k lt in
@@ -82,7 +82,7 @@ frees-before lanes depth steps counter k e some deep lt full enters =
     all-filter (λ p. nat_lt counter (cycle_of p.1)) (λ p. nat_lt (cycle_of p.1) (cycle_of e)) events (below-later (last_cycle events) events (0, e) (lanes-rise lanes depth steps k some).up later) in
     subst (λ (l : LaneState). frees_at l < cycle_of e) (sym lane) (first-before depth (cycle_of e) (lane_of counter events).held (last_cycle events) deep filled before)
 
-still-full : (lanes depth : ℕ) (steps : List LaneStep) (from to k : ℕ) → 1 ≤ lanes → k < lanes → from ≤ to → to < frees_at (lane_at (lanes_then lanes depth steps from) k) → is_full (lanes_then lanes depth steps from) k ≡ true → is_full (lanes_then lanes depth steps to) k ≡ true
+still-full : (lanes depth : ℕ) (steps : List LaneStep) (from to k : ℕ) → 1 ≤ lanes → k < lanes → from ≤ to → to < frees_at (lane_at (lanes_then lanes depth steps from) k) → is_full_lane (lanes_then lanes depth steps from) k ≡ true → is_full_lane (lanes_then lanes depth steps to) k ≡ true
 still-full lanes depth steps from to k some lt le later full =
     let events : List (ℕ × Event) = accepted_into k (judged lanes depth steps) in
     let old : lane_at (lanes_then lanes depth steps from) k ≡ lane_of from events = lane_at-lanes_after lanes depth (judged lanes depth steps) from k lt in
@@ -93,7 +93,7 @@ still-full lanes depth steps from to k some lt le later full =
     ap (λ (l : LaneState). nat_le depth (length l.held)) new ∙ ap (λ (ps : List (ℕ × Event)). nat_le depth (length ps)) same
     ∙ ap (λ (l : LaneState). nat_le depth (length l.held)) (sym old) ∙ full
 
-has-room : (lanes depth : ℕ) (steps : List LaneStep) (from to k : ℕ) → 1 ≤ lanes → NeverFall 0 steps from → k < lanes → from < to → to ≡ frees_at (lane_at (lanes_then lanes depth steps from) k) → is_full (lanes_then lanes depth steps to) k ≡ false
+has-room : (lanes depth : ℕ) (steps : List LaneStep) (from to k : ℕ) → 1 ≤ lanes → NeverFall 0 steps from → k < lanes → from < to → to ≡ frees_at (lane_at (lanes_then lanes depth steps from) k) → is_full_lane (lanes_then lanes depth steps to) k ≡ false
 has-room lanes depth steps from to k some in_time lt later is =
     let events : List (ℕ × Event) = accepted_into k (judged lanes depth steps) in
     let old : lane_at (lanes_then lanes depth steps from) k ≡ lane_of from events = lane_at-lanes_after lanes depth (judged lanes depth steps) from k lt in
@@ -110,13 +110,13 @@ has-room lanes depth steps from to k some in_time lt later is =
 -- the lanes of a waiting event: the next one, and the current one if the event may enter it, are full
 record AreFull (s : LanesState) (e : Event) : Type 0 where
   enters : may_enter s (next_lane s) e ≡ true
-  next : is_full s (next_lane s) ≡ true
-  current : may_enter s s.current e ≡ true → is_full s s.current ≡ true
+  next : is_full_lane s (next_lane s) ≡ true
+  current : may_enter s s.current e ≡ true → is_full_lane s s.current ≡ true
 
 are-full : (s : LanesState) (e : Event) (counter : ℕ) → verdict s e counter ≡ Undecided → AreFull s e
 are-full s e counter undecided =
     let t = tests-of s e counter undecided in
-    record { enters = t.entered; next = t.filled; current = λ enters. current-full (is_full s s.current) (may_enter s s.current e) t.refused enters }
+    record { enters = t.entered; next = t.filled; current = λ enters. current-full (is_full_lane s s.current) (may_enter s s.current e) t.refused enters }
 
 next-then : (lanes depth : ℕ) (steps : List LaneStep) (from to : ℕ) → next_lane (lanes_then lanes depth steps to) ≡ next_lane (lanes_then lanes depth steps from)
 next-then lanes depth steps from to =
@@ -127,12 +127,12 @@ next-then lanes depth steps from to =
 full-undecided : (s : LanesState) (e : Event) (counter : ℕ) → counter < cycle_of e → AreFull s e → verdict s e counter ≡ Undecided
 full-undecided s e counter later full =
     let in_time : nat_le (cycle_of e) counter ≡ false = grind (arith, nat_tests, later) in
-    tests-undecided (nat_le (cycle_of e) counter) (current_takes s e) (may_enter s (next_lane s) e) (is_full s (next_lane s)) s.current (next_lane s)
+    tests-undecided (nat_le (cycle_of e) counter) (current_takes s e) (may_enter s (next_lane s) e) (is_full_lane s (next_lane s)) s.current (next_lane s)
     (record { in_time = in_time; refused = refuses (may_enter s s.current e) refl; entered = full.enters; filled = full.next })
   where
-    refuses : (b : Bool) → may_enter s s.current e ≡ b → (not (is_full s s.current) && may_enter s s.current e) ≡ false
+    refuses : (b : Bool) → may_enter s s.current e ≡ b → (not (is_full_lane s s.current) && may_enter s s.current e) ≡ false
     refuses true is = let filled = full.current is in rw filled refl
-    refuses false is = rw is (and-false (not (is_full s s.current)))
+    refuses false is = rw is (and-false (not (is_full_lane s s.current)))
       where
         and-false : (b : Bool) → (b && false) ≡ false
         and-false true = refl
@@ -223,12 +223,12 @@ waits-until lanes depth steps counter e some deep in_time undecided = record {
         by-cases : Cases s e → AreFull (lanes_then lanes depth steps to) e
         by-cases (inl (enters, is)) = record {
           enters = ap (λ (k : ℕ). may_enter (lanes_then lanes depth steps to) k e) (next-then lanes depth steps counter to) ∙ enters-same lanes depth (judged lanes depth steps) counter to (next_lane s) e ∙ full.enters;
-          next = ap (is_full (lanes_then lanes depth steps to)) (next-then lanes depth steps counter to) ∙ still-full lanes depth steps counter to (next_lane s) some next_there le (omega (arith, lt, is)) full.next;
+          next = ap (is_full_lane (lanes_then lanes depth steps to)) (next-then lanes depth steps counter to) ∙ still-full lanes depth steps counter to (next_lane s) some next_there le (omega (arith, lt, is)) full.next;
           current = λ again. still-full lanes depth steps counter to s.current some current_there le (omega (arith, lt, is)) (full.current enters);
         }
         by-cases (inr (other, is)) = record {
           enters = ap (λ (k : ℕ). may_enter (lanes_then lanes depth steps to) k e) (next-then lanes depth steps counter to) ∙ enters-same lanes depth (judged lanes depth steps) counter to (next_lane s) e ∙ full.enters;
-          next = ap (is_full (lanes_then lanes depth steps to)) (next-then lanes depth steps counter to) ∙ still-full lanes depth steps counter to (next_lane s) some next_there le (omega (arith, lt, is)) full.next;
+          next = ap (is_full_lane (lanes_then lanes depth steps to)) (next-then lanes depth steps counter to) ∙ still-full lanes depth steps counter to (next_lane s) some next_there le (omega (arith, lt, is)) full.next;
           current = λ again. let no : true ≡ false = sym again ∙ enters-same lanes depth (judged lanes depth steps) counter to s.current e ∙ other in absurd (cc);
         }
 
@@ -240,13 +240,13 @@ waits-until lanes depth steps counter e some deep in_time undecided = record {
 
         next-frees : until s e ≡ frees_at (lane_at s (next_lane s)) → ⊥
         next-frees is =
-            let room : is_full (lanes_then lanes depth steps (until s e)) (next_lane s) ≡ false = has-room lanes depth steps counter (until s e) (next_lane s) some in_time next_there later is in
-            let no : true ≡ false = sym then_full.next ∙ ap (is_full (lanes_then lanes depth steps (until s e))) (next-then lanes depth steps counter (until s e)) ∙ room in
+            let room : is_full_lane (lanes_then lanes depth steps (until s e)) (next_lane s) ≡ false = has-room lanes depth steps counter (until s e) (next_lane s) some in_time next_there later is in
+            let no : true ≡ false = sym then_full.next ∙ ap (is_full_lane (lanes_then lanes depth steps (until s e))) (next-then lanes depth steps counter (until s e)) ∙ room in
             absurd (cc)
 
         current-frees : may_enter s s.current e ≡ true → until s e ≡ frees_at (lane_at s s.current) → ⊥
         current-frees enters is =
-            let room : is_full (lanes_then lanes depth steps (until s e)) s.current ≡ false = has-room lanes depth steps counter (until s e) s.current some in_time current_there later is in
+            let room : is_full_lane (lanes_then lanes depth steps (until s e)) s.current ≡ false = has-room lanes depth steps counter (until s e) s.current some in_time current_there later is in
             let entered : may_enter (lanes_then lanes depth steps (until s e)) s.current e ≡ true = enters-same lanes depth (judged lanes depth steps) counter (until s e) s.current e ∙ enters in
             let no : true ≡ false = sym (then_full.current entered) ∙ room in
             absurd (cc)

@@ -3,7 +3,7 @@ use Rattle.std.proofs.Common.{◌≤◌, ℕ, List, [], ◌∷◌, ◌++◌, sym
 use Rattle.rtio_types.specs.declared.event.Event.{Event}
 use Rattle.sed_lanes.specs.Judged.{Judged, LaneStep, Submit, Clear, Submitted, Cleared, judged, lanes_after, next_number}
 use Rattle.sed_lanes.specs.Verdict.{verdict}
-use Rattle.sed_lanes.specs.Counters.{NeverFall, step_at}
+use Rattle.sed_lanes.specs.Counters.{NeverFall, lane_step_at}
 use Rattle.sed_lanes.proofs.Histories.{judged-submit, judged-clear}
 
 from-front : (P : List LaneStep → Type 0) → ((front : List LaneStep) (step : LaneStep) → P front → P (front ++ step ∷ [])) → (front rest : List LaneStep) → P front → P (front ++ rest)
@@ -24,16 +24,16 @@ each-judged lanes depth P none submitted cleared steps = each-step (λ s. P (jud
     more front (Clear at) h = subst P (sym (judged-clear lanes depth front at)) (cleared (judged lanes depth front) at h)
 
 -- a step at a later counter goes on
-pub never-fall-push : (from : ℕ) (steps : List LaneStep) (step : LaneStep) (to : ℕ) → NeverFall from steps (step_at step) → step_at step ≤ to → NeverFall from (steps ++ step ∷ []) to
+pub never-fall-push : (from : ℕ) (steps : List LaneStep) (step : LaneStep) (to : ℕ) → NeverFall from steps (lane_step_at step) → lane_step_at step ≤ to → NeverFall from (steps ++ step ∷ []) to
 never-fall-push from [] step to h le = (h, le)
-never-fall-push from (s ∷ rest) step to h le = (h.0, never-fall-push (step_at s) rest step to h.1 le)
+never-fall-push from (s ∷ rest) step to h le = (h.0, never-fall-push (lane_step_at s) rest step to h.1 le)
 
 -- so do all steps but the last
-pub never-fall-front : (from : ℕ) (steps : List LaneStep) (step : LaneStep) (to : ℕ) → NeverFall from (steps ++ step ∷ []) to → NeverFall from steps (step_at step) × (step_at step ≤ to)
+pub never-fall-front : (from : ℕ) (steps : List LaneStep) (step : LaneStep) (to : ℕ) → NeverFall from (steps ++ step ∷ []) to → NeverFall from steps (lane_step_at step) × (lane_step_at step ≤ to)
 never-fall-front from [] step to h = h
-never-fall-front from (s ∷ rest) step to h = let ih = never-fall-front (step_at s) rest step to h.1 in ((h.0, ih.0), ih.1)
+never-fall-front from (s ∷ rest) step to h = let ih = never-fall-front (lane_step_at s) rest step to h.1 in ((h.0, ih.0), ih.1)
 
 -- the last counter may be a later one
 pub never-fall-later : (from : ℕ) (steps : List LaneStep) (to later : ℕ) → NeverFall from steps to → to ≤ later → NeverFall from steps later
 never-fall-later from [] to later h le = omega (arith, h, le)
-never-fall-later from (s ∷ rest) to later h le = (h.0, never-fall-later (step_at s) rest to later h.1 le)
+never-fall-later from (s ∷ rest) to later h le = (h.0, never-fall-later (lane_step_at s) rest to later h.1 le)

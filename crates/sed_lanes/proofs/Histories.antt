@@ -9,7 +9,7 @@ use Rattle.std.proofs.lemmas.Bool.Decides.{nat_tests}
 use Rattle.std.specs.List.{range_with_len}
 use Rattle.rtio_types.specs.declared.event.Event.{Event}
 use Rattle.rtio_types.specs.Time.{cycle_of}
-use Rattle.sed_lanes.specs.Lanes.{LaneState, LanesState, with_accepted, empty_lane, is_full, is_later, may_enter, next_lane}
+use Rattle.sed_lanes.specs.Lanes.{LaneState, LanesState, with_accepted, empty_lane, is_full_lane, is_later, may_enter, next_lane}
 use Rattle.sed_lanes.specs.Verdict.{Verdict, Underflow, Lane, Sequence, Undecided, verdict, current_takes}
 use Rattle.sed_lanes.specs.Judged.{LaneStep, Submit, Clear, Judged, Submitted, Cleared, judged, since_clearing, accepted_into, last_cycle, current_lane, lane_of, lanes_after, next_number}
 
@@ -108,7 +108,7 @@ last-at f g (j ∷ ks) zero same = same j
 last-at f g (j ∷ ks) (suc k) same = last-at f g ks k same
 
 -- a lane that is full at a counter was full at each earlier one
-pub full-earlier : (lanes depth : ℕ) (judged : List Judged) (from to k : ℕ) → from ≤ to → is_full (lanes_after lanes depth judged to) k ≡ true → is_full (lanes_after lanes depth judged from) k ≡ true
+pub full-earlier : (lanes depth : ℕ) (judged : List Judged) (from to k : ℕ) → from ≤ to → is_full_lane (lanes_after lanes depth judged to) k ≡ true → is_full_lane (lanes_after lanes depth judged from) k ≡ true
 full-earlier lanes depth judged from to k le full =
     let f : ℕ → LaneState = λ j. lane_of from (accepted_into j judged) in
     let g : ℕ → LaneState = λ j. lane_of to (accepted_into j judged) in
@@ -152,18 +152,18 @@ pub undecided-earlier : (lanes depth : ℕ) (judged : List Judged) (e : Event) (
 undecided-earlier lanes depth judged e from to le undecided =
     let old : LanesState = lanes_after lanes depth judged from in
     let new : LanesState = lanes_after lanes depth judged to in
-    let t : IsUndecided (nat_le (cycle_of e) to) (current_takes new e) (may_enter new (next_lane new) e) (is_full new (next_lane new)) =
-    undecided-tests (nat_le (cycle_of e) to) (current_takes new e) (may_enter new (next_lane new) e) (is_full new (next_lane new)) new.current (next_lane new) undecided in
+    let t : IsUndecided (nat_le (cycle_of e) to) (current_takes new e) (may_enter new (next_lane new) e) (is_full_lane new (next_lane new)) =
+    undecided-tests (nat_le (cycle_of e) to) (current_takes new e) (may_enter new (next_lane new) e) (is_full_lane new (next_lane new)) new.current (next_lane new) undecided in
     let next : next_lane new ≡ next_lane old =
     ap (λ n. (current_lane judged + 1) % n)
     (length-map (range_with_len 0 lanes) (λ j. lane_of to (accepted_into j judged)) ∙ sym (length-map (range_with_len 0 lanes) (λ j. lane_of from (accepted_into j judged)))) in
     let late : nat_le (cycle_of e) from ≡ false = grind (arith, nat_tests, t.in_time, le) in
     let takes : current_takes old e ≡ false =
-    still-refused (is_full old old.current) (is_full new new.current) (may_enter old old.current e) (may_enter new new.current e)
+    still-refused (is_full_lane old old.current) (is_full_lane new new.current) (may_enter old old.current e) (may_enter new new.current e)
     (enters-same lanes depth judged from to old.current e) (full-earlier lanes depth judged from to old.current le) t.refused in
     let enters : may_enter old (next_lane old) e ≡ true =
     sym (enters-same lanes depth judged from to (next_lane old) e) ∙ ap (λ k. may_enter new k e) (sym next) ∙ t.entered in
-    let full : is_full old (next_lane old) ≡ true =
-    full-earlier lanes depth judged from to (next_lane old) le (ap (is_full new) (sym next) ∙ t.filled) in
-    tests-undecided (nat_le (cycle_of e) from) (current_takes old e) (may_enter old (next_lane old) e) (is_full old (next_lane old)) old.current (next_lane old)
+    let full : is_full_lane old (next_lane old) ≡ true =
+    full-earlier lanes depth judged from to (next_lane old) le (ap (is_full_lane new) (sym next) ∙ t.filled) in
+    tests-undecided (nat_le (cycle_of e) from) (current_takes old e) (may_enter old (next_lane old) e) (is_full_lane old (next_lane old)) old.current (next_lane old)
     (record { in_time = late; refused = takes; entered = enters; filled = full })

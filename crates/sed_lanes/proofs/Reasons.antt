@@ -4,7 +4,7 @@ use Rattle.std.specs.Prelude.{Option, Some, None, filter_map, fold, nat_lt, nat_
 use Rattle.std.specs.List.{list_all, range_with_len}
 use Rattle.rtio_types.specs.declared.event.Event.{Event}
 use Rattle.rtio_types.specs.Time.{cycle_of}
-use Rattle.sed_lanes.specs.Lanes.{LaneState, LanesState, empty_lane, is_later, may_enter, next_lane, is_full}
+use Rattle.sed_lanes.specs.Lanes.{LaneState, LanesState, empty_lane, is_later, may_enter, next_lane, is_full_lane}
 use Rattle.sed_lanes.specs.Verdict.{Underflow, Lane, Sequence, Undecided, verdict, current_takes}
 use Rattle.sed_lanes.specs.Judged.{Judged, Submitted, Cleared, since_clearing, accepted_into, taken_by, lane_of, lanes_after}
 use Rattle.sed_lanes.specs.Accepted.{taken, accepted_since_clearing}
@@ -59,5 +59,5 @@ not-sequence false false false full i j h = absurd (cc)
 pub sequence-has-reason : (lanes depth : ℕ) (judged : List Judged) (counter : ℕ) (e : Event) → are_before (cycle_of e) (accepted_since_clearing judged) ≡ true → verdict (lanes_after lanes depth judged counter) e counter ≢ Sequence
 sequence-has-reason lanes depth judged counter e all =
     let s : LanesState = lanes_after lanes depth judged counter in
-    not-sequence (nat_le (cycle_of e) counter) (current_takes s e) (may_enter s (next_lane s) e) (is_full s (next_lane s)) s.current (next_lane s)
+    not-sequence (nat_le (cycle_of e) counter) (current_takes s e) (may_enter s (next_lane s) e) (is_full_lane s (next_lane s)) s.current (next_lane s)
     (enters-later lanes depth judged counter (next_lane s) e all)

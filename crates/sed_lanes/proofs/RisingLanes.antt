@@ -9,7 +9,7 @@ use Rattle.rtio_types.specs.Time.{cycle_of}
 use Rattle.sed_lanes.specs.Calls.{held_at}
 use Rattle.sed_lanes.specs.Counters.{NeverFall}
 use Rattle.sed_lanes.specs.Judged.{Judged, LaneStep, Submit, Clear, Submitted, Cleared, accepted_into, judged, lane_of, lanes_after, last_cycle}
-use Rattle.sed_lanes.specs.Lanes.{LaneState, LanesState, empty_lane, is_full, is_later, lane_at, may_enter, next_lane}
+use Rattle.sed_lanes.specs.Lanes.{LaneState, LanesState, empty_lane, is_full_lane, is_later, lane_at, may_enter, next_lane}
 use Rattle.sed_lanes.specs.Peaks.{held_after, peak_from}
 use Rattle.sed_lanes.specs.Rows.{are_rising, are_up_to}
 use Rattle.sed_lanes.specs.Verdict.{Verdict, Underflow, Lane, Sequence, Undecided, current_takes, verdict}
@@ -25,22 +25,22 @@ use Rattle.sed_lanes.proofs.Unplaced.{accepted-unplaced}
 -- what the lane that takes an event has passed
 pub record TakesInTime (s : LanesState) (e : Event) (counter k : ℕ) : Type 0 where
   pub in_time : counter < cycle_of e
-  pub room : is_full s k ≡ false
+  pub room : is_full_lane s k ≡ false
   pub enters : may_enter s k e ≡ true
 
 -- a lane takes an event only in time, with room, and behind an earlier cycle
 pub takes-in-time : (s : LanesState) (e : Event) (counter k : ℕ) → verdict s e counter ≡ Lane k → TakesInTime s e counter k
 takes-in-time s e counter k is =
-    by-tests (nat_le (cycle_of e) counter) (is_full s s.current) (may_enter s s.current e) (may_enter s (next_lane s) e) (is_full s (next_lane s)) refl refl refl refl refl is
+    by-tests (nat_le (cycle_of e) counter) (is_full_lane s s.current) (may_enter s s.current e) (may_enter s (next_lane s) e) (is_full_lane s (next_lane s)) refl refl refl refl refl is
   where
-    here : (i : ℕ) → nat_le (cycle_of e) counter ≡ false → is_full s i ≡ false → may_enter s i e ≡ true → i ≡ k → TakesInTime s e counter k
+    here : (i : ℕ) → nat_le (cycle_of e) counter ≡ false → is_full_lane s i ≡ false → may_enter s i e ≡ true → i ≡ k → TakesInTime s e counter k
     here i late full enters same = subst (TakesInTime s e counter) same (record {
       in_time = grind (arith, nat_tests, late);
       room = full;
       enters = enters;
     })
 
-    by-tests : (late full enters next_enters next_full : Bool) → nat_le (cycle_of e) counter ≡ late → is_full s s.current ≡ full → may_enter s s.current e ≡ enters → may_enter s (next_lane s) e ≡ next_enters → is_full s (next_lane s) ≡ next_full → chosen late (not full && enters) next_enters next_full s.current (next_lane s) ≡ Lane k → TakesInTime s e counter k
+    by-tests : (late full enters next_enters next_full : Bool) → nat_le (cycle_of e) counter ≡ late → is_full_lane s s.current ≡ full → may_enter s s.current e ≡ enters → may_enter s (next_lane s) e ≡ next_enters → is_full_lane s (next_lane s) ≡ next_full → chosen late (not full && enters) next_enters next_full s.current (next_lane s) ≡ Lane k → TakesInTime s e counter k
     by-tests true full enters next_enters next_full a b c d f h = absurd (cc)
     by-tests false false true next_enters next_full a b c d f h = here s.current a b c cc
     by-tests false false false false next_full a b c d f h = absurd (cc)
@@ -54,7 +54,7 @@ takes-in-time s e counter k is =
 pub no-underflow : (s : LanesState) (e : Event) (counter : ℕ) → counter < cycle_of e → verdict s e counter ≢ Underflow
 no-underflow s e counter later =
     let not_late : nat_le (cycle_of e) counter ≡ false = grind (arith, nat_tests, later) in
-    by-tests (nat_le (cycle_of e) counter) (current_takes s e) (may_enter s (next_lane s) e) (is_full s (next_lane s)) not_late
+    by-tests (nat_le (cycle_of e) counter) (current_takes s e) (may_enter s (next_lane s) e) (is_full_lane s (next_lane s)) not_late
   where
     by-tests : (late takes enters full : Bool) → late ≡ false → chosen late takes enters full s.current (next_lane s) ≢ Underflow
     by-tests true takes enters full not_late = absurd (cc)

@@ -6,10 +6,10 @@ use Rattle.std.proofs.lemmas.List.{length-map, length-replicate, length-set}
 use Rattle.std.proofs.lemmas.Bool.Decides.{nat_tests}
 use Rattle.rtio_types.specs.declared.event.Event.{Event}
 use Rattle.rtio_types.specs.Time.{cycle_of}
-use Rattle.sed_lanes.specs.Lanes.{LaneState, LanesState, empty_lanes, next_lane, may_enter, is_full}
+use Rattle.sed_lanes.specs.Lanes.{LaneState, LanesState, empty_lanes, next_lane, may_enter, is_full_lane}
 use Rattle.sed_lanes.specs.Verdict.{Verdict, Underflow, Lane, Sequence, Undecided, verdict, current_takes}
 use Rattle.sed_lanes.specs.Judged.{Judged, LaneStep, Submit, Clear, Submitted, judged, accepted_into, current_lane, lane_of, lanes_after, last_cycle, next_number, since_clearing}
-use Rattle.sed_lanes.specs.Calls.{StandFor, after_verdict, all_held_from, without}
+use Rattle.sed_lanes.specs.Calls.{LanesStandFor, after_verdict, all_held_from, without}
 use Rattle.sed_lanes.proofs.Histories.{judged-submit, judged-clear, since_clearing-cleared, lanes_after-accepted}
 use Rattle.sed_lanes.proofs.Unplaced.{lanes_after-unplaced, lanes_after-nothing}
 
@@ -28,7 +28,7 @@ chosen-below false false true true i j lanes below next = tt
 -- a lane that takes an event is one of the lanes
 pub verdict-below : (s : LanesState) (e : Event) (counter : ℕ) → s.current < length s.lanes → next_lane s < length s.lanes → IsLaneBelow (length s.lanes) (verdict s e counter)
 verdict-below s e counter below next =
-    chosen-below (nat_le (cycle_of e) counter) (current_takes s e) (may_enter s (next_lane s) e) (is_full s (next_lane s)) s.current (next_lane s) (length s.lanes) below next
+    chosen-below (nat_le (cycle_of e) counter) (current_takes s e) (may_enter s (next_lane s) e) (is_full_lane s (next_lane s)) s.current (next_lane s) (length s.lanes) below next
 
 -- the lanes behind a verdict, for a history that they stood for before
 behind : (lanes depth : ℕ) (old : List Judged) (number counter : ℕ) (e : Event) (v : Verdict) → counter < cycle_of e → IsLaneBelow lanes v → after_verdict (lanes_after lanes depth old counter) number e v ≡ lanes_after lanes depth (old ++ Submitted number counter e v ∷ []) counter
@@ -50,13 +50,13 @@ after-depth s number e Sequence = refl
 after-depth s number e Undecided = refl
 
 -- lanes of so many and such a depth stand for what they are
-pub stands-at : (s : LanesState) (lanes depth : ℕ) (steps : List LaneStep) (counter : ℕ) → length s.lanes ≡ lanes → s.depth ≡ depth → s ≡ lanes_after lanes depth (judged lanes depth steps) counter → StandFor s steps counter
+pub stands-at : (s : LanesState) (lanes depth : ℕ) (steps : List LaneStep) (counter : ℕ) → length s.lanes ≡ lanes → s.depth ≡ depth → s ≡ lanes_after lanes depth (judged lanes depth steps) counter → LanesStandFor s steps counter
 stands-at s lanes depth steps counter is_long is_deep is =
     is ∙ ap (λ (n : ℕ). lanes_after n depth (judged n depth steps) counter) (sym is_long)
     ∙ ap (λ (d : ℕ). lanes_after (length s.lanes) d (judged (length s.lanes) d steps) counter) (sym is_deep)
 
 -- behind `place`
-pub stands-placed : (s : LanesState) (steps : List LaneStep) (counter number : ℕ) (e : Event) → counter < cycle_of e → s.current < length s.lanes → next_lane s < length s.lanes → StandFor s steps counter → number ≡ next_number (judged (length s.lanes) s.depth steps) → StandFor (after_verdict s number e (verdict s e counter)) (steps ++ Submit counter e ∷ []) counter
+pub stands-placed : (s : LanesState) (steps : List LaneStep) (counter number : ℕ) (e : Event) → counter < cycle_of e → s.current < length s.lanes → next_lane s < length s.lanes → LanesStandFor s steps counter → number ≡ next_number (judged (length s.lanes) s.depth steps) → LanesStandFor (after_verdict s number e (verdict s e counter)) (steps ++ Submit counter e ∷ []) counter
 stands-placed s steps counter number e later below next stands is =
     let lanes : ℕ = length s.lanes in
     let depth : ℕ = s.depth in
@@ -72,7 +72,7 @@ stands-placed s steps counter number e later below next stands is =
     ∙ ap (λ (j : List Judged). lanes_after lanes depth j counter) (sym grown))
 
 -- behind `clear`, whatever they stood for
-pub stands-cleared : (lanes depth : ℕ) (steps : List LaneStep) (at counter : ℕ) → StandFor (empty_lanes lanes depth) (steps ++ Clear at ∷ []) counter
+pub stands-cleared : (lanes depth : ℕ) (steps : List LaneStep) (at counter : ℕ) → LanesStandFor (empty_lanes lanes depth) (steps ++ Clear at ∷ []) counter
 stands-cleared lanes depth steps at counter =
     let none : since_clearing (judged lanes depth (steps ++ Clear at ∷ [])) ≡ [] =
     ap since_clearing (judged-clear lanes depth steps at) ∙ since_clearing-cleared (judged lanes depth steps) at in
@@ -80,7 +80,7 @@ stands-cleared lanes depth steps at counter =
     (sym (lanes_after-nothing lanes depth (judged lanes depth (steps ++ Clear at ∷ [])) counter none))
 
 -- behind `new`
-pub stands-new : (lanes depth counter : ℕ) → StandFor (empty_lanes lanes depth) [] counter
+pub stands-new : (lanes depth counter : ℕ) → LanesStandFor (empty_lanes lanes depth) [] counter
 stands-new lanes depth counter =
     stands-at (empty_lanes lanes depth) lanes depth [] counter (length-replicate _ _) refl (sym (lanes_after-nothing lanes depth [] counter refl))
 
@@ -123,7 +123,7 @@ lanes-reached counter cycle taken (k ∷ ks) le all =
     ∙ ap (λ (lanes : List LaneState). lane_of cycle (taken k) ∷ lanes) ih
 
 -- behind `drain`
-pub stands-drained : (s : LanesState) (steps : List LaneStep) (counter cycle : ℕ) → counter ≤ cycle → all_held_from cycle s ≡ true → StandFor s steps counter → StandFor (without cycle s) steps cycle
+pub stands-drained : (s : LanesState) (steps : List LaneStep) (counter cycle : ℕ) → counter ≤ cycle → all_held_from cycle s ≡ true → LanesStandFor s steps counter → LanesStandFor (without cycle s) steps cycle
 stands-drained s steps counter cycle le from stands =
     let lanes : ℕ = length s.lanes in
     let depth : ℕ = s.depth in
@@ -135,7 +135,7 @@ stands-drained s steps counter cycle le from stands =
     (lanes-reached counter cycle (λ k. accepted_into k old) (range_with_len 0 lanes) le held))
 
 -- behind `place`, for the lanes that it leaves
-pub stands-behind : (s left : LanesState) (steps : List LaneStep) (counter number : ℕ) (e : Event) → counter < cycle_of e → s.current < length s.lanes → next_lane s < length s.lanes → StandFor s steps counter → number ≡ next_number (judged (length s.lanes) s.depth steps) → left ≡ after_verdict s number e (verdict s e counter) → StandFor left (steps ++ Submit counter e ∷ []) counter
+pub stands-behind : (s left : LanesState) (steps : List LaneStep) (counter number : ℕ) (e : Event) → counter < cycle_of e → s.current < length s.lanes → next_lane s < length s.lanes → LanesStandFor s steps counter → number ≡ next_number (judged (length s.lanes) s.depth steps) → left ≡ after_verdict s number e (verdict s e counter) → LanesStandFor left (steps ++ Submit counter e ∷ []) counter
 stands-behind s left steps counter number e later below next stands is after =
-    subst (λ (x : LanesState). StandFor x (steps ++ Submit counter e ∷ []) counter) (sym after)
+    subst (λ (x : LanesState). LanesStandFor x (steps ++ Submit counter e ∷ []) counter) (sym after)
     (stands-placed s steps counter number e later below next stands is)

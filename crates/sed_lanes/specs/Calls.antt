@@ -49,5 +49,5 @@ without cycle s = record s {
 }
 
 -- the lanes are those that this history leaves at the counter
-abbrev pub StandFor : LanesState → List LaneStep → ℕ → Type 0
-StandFor s steps counter = s ≡ lanes_after (length s.lanes) s.depth (judged (length s.lanes) s.depth steps) counter
+abbrev pub LanesStandFor : LanesState → List LaneStep → ℕ → Type 0
+LanesStandFor s steps counter = s ≡ lanes_after (length s.lanes) s.depth (judged (length s.lanes) s.depth steps) counter

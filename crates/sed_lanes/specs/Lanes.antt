@@ -29,8 +29,8 @@ abbrev pub next_lane : LanesState → ℕ
 next_lane s = (s.current + 1) % length s.lanes
 
 -- the lane holds as many events as it may
-abbrev pub is_full : LanesState → ℕ → Bool
-is_full s k = nat_le s.depth (length (lane_at s k).held)
+abbrev pub is_full_lane : LanesState → ℕ → Bool
+is_full_lane s k = nat_le s.depth (length (lane_at s k).held)
 
 -- the cycle is later than the last one, if there is one
 abbrev pub is_later : Option ℕ → ℕ → Bool

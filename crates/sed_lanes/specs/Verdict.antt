@@ -2,7 +2,7 @@
 use Rattle.std.specs.Prelude.{ℕ, Bool, not, ◌&&◌, List, [], ◌∷◌, min, map, filter, nat_le, if◌then◌else◌}
 use Rattle.rtio_types.specs.declared.event.Event.{Event}
 use Rattle.rtio_types.specs.Time.{cycle_of}
-use Rattle.sed_lanes.specs.Lanes.{LaneState, LanesState, lane_at, next_lane, is_full, may_enter}
+use Rattle.sed_lanes.specs.Lanes.{LaneState, LanesState, lane_at, next_lane, is_full_lane, may_enter}
 
 -- the event comes too late; a lane takes it; it is out of sequence; or it has to be asked again later
 pub data Verdict : Type 0 where
@@ -13,7 +13,7 @@ pub data Verdict : Type 0 where
 
 -- the current lane takes the event, if it isn't full and its last cycle is earlier
 abbrev pub current_takes : LanesState → Event → Bool
-current_takes s e = not (is_full s s.current) && may_enter s s.current e
+current_takes s e = not (is_full_lane s s.current) && may_enter s s.current e
 
 -- the verdict of the lanes at a counter: the first of the rules that holds
 abbrev pub verdict : LanesState → Event → ℕ → Verdict
@@ -21,7 +21,7 @@ verdict s e counter =
     if nat_le (cycle_of e) counter then Underflow
     else if current_takes s e then Lane s.current
     else if not (may_enter s (next_lane s) e) then Sequence
-    else if not (is_full s (next_lane s)) then Lane (next_lane s)
+    else if not (is_full_lane s (next_lane s)) then Lane (next_lane s)
     else Undecided
 
 -- the cycle of the first held event, at which a full lane gets room

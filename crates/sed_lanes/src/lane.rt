@@ -9,7 +9,7 @@ ghost use Rattle.sed_lanes.specs.Rows.{are_rising, row_state};
 ghost use Rattle.sed_lanes.specs.Verdict.{frees_at};
 
 use crate::heads::Heads;
-use rtio_types::{Event, coarse};
+use rtio_types::{Event, cycle_of};
 use std::alloc::{AllocError, Global};
 use std::collections::VecDeque;
 
@@ -19,14 +19,6 @@ use std::collections::VecDeque;
 pub struct Lane {
     pub held: VecDeque<(u64, Event)>,
     pub last: Option<u64>,
-}
-
-/// The cycle of an event; one before cycle 0 counts as 0.
-pub fn cycle_of(event: &Event) -> u64
-    ensures cycle { result ≡ cycle_of event.now }
-    ensures small { result < 2 ^ 60 }
-{
-    coarse(event.stamp).max(0) as u64
 }
 
 impl Lane {

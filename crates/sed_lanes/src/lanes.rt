@@ -2,15 +2,15 @@
 
 ghost use Rattle.std.specs.Prelude.{◌≡◌, ◌≢◌, ◌≤◌, ◌<◌, ◌+◌, ℕ, [], ◌∷◌, ◌++◌, List, IfOk, IsTrue, Some, false, length, pos, true};
 ghost use Rattle.rtio_types.specs.Time.{cycle_of};
-ghost use Rattle.sed_lanes.specs.Calls.{Answers, StandFor, after_verdict, all_held_after, all_held_from, held_at, is_new_number, wait_of, without};
+ghost use Rattle.sed_lanes.specs.Calls.{Answers, LanesStandFor, after_verdict, all_held_after, all_held_from, held_at, is_new_number, wait_of, without};
 ghost use Rattle.sed_lanes.specs.Heads.{by_number};
 ghost use Rattle.sed_lanes.specs.Judged.{Clear, LaneStep, Submit, judged, next_number};
-ghost use Rattle.sed_lanes.specs.Lanes.{empty_lanes, held_events, is_full, lane_at, may_enter, next_lane, with_accepted};
+ghost use Rattle.sed_lanes.specs.Lanes.{empty_lanes, held_events, is_full_lane, lane_at, may_enter, next_lane, with_accepted};
 ghost use Rattle.sed_lanes.specs.Verdict.{Undecided, until, verdict};
 
 use crate::heads::Heads;
-use crate::lane::{Lane, cycle_of};
-use rtio_types::Event;
+use crate::lane::Lane;
+use rtio_types::{Event, cycle_of};
 use std::alloc::{AllocError, Global};
 use std::marker::Model;
 
@@ -51,7 +51,7 @@ impl Lanes {
         requires lanes { (1 ≤ lanes) × (lanes ≤ 32) }
         requires depth { (1 ≤ depth) × (depth ≤ 1024) }
         ensures empty { IfOk result (λ new. new ≡ empty_lanes lanes depth) }
-        ensures stands { IfOk result (λ new. (counter : ℕ) → StandFor new [] counter) }
+        ensures stands { IfOk result (λ new. (counter : ℕ) → LanesStandFor new [] counter) }
     {
         let mut all = Vec::with_capacity(alloc, lanes as usize)?;
         for _lane in 0..lanes {
@@ -74,7 +74,7 @@ impl Lanes {
     /// Whether a lane holds as many events as it may.
     fn is_full(&self, lane: u32) -> bool
         requires { lane < length self.now.lanes }
-        ensures { result ≡ is_full self.now lane }
+        ensures { result ≡ is_full_lane self.now lane }
     {
         self.lanes[lane as usize].is_full(self.depth)
     }
@@ -114,7 +114,7 @@ impl Lanes {
     /// Gives an event to a lane, which becomes the current one.
     fn accept(&mut self, lane: u32, number: u64, event: Event)
         requires lane { lane < length self.old.lanes }
-        requires room { is_full self.old lane ≡ false }
+        requires room { is_full_lane self.old lane ≡ false }
         requires later { may_enter self.old lane event ≡ true }
         requires number { IsTrue (is_new_number number self.old) }
         ensures { self.new ≡ with_accepted self.old lane number event }
@@ -169,10 +169,10 @@ impl Lanes {
         ensures answer { Answers self.old event.now (verdict self.old event.now counter) result }
         ensures after { self.new ≡ after_verdict self.old number event.now (verdict self.old event.now counter) }
         // What the lanes stand for has grown by the event, unless it waits.
-        ensures stands { (steps : List LaneStep) → StandFor self.old steps counter
+        ensures stands { (steps : List LaneStep) → LanesStandFor self.old steps counter
             → number ≡ next_number (judged (length self.old.lanes) self.old.depth steps)
             → verdict self.old event.now counter ≢ Undecided
-            → StandFor self.new (steps ++ Submit counter event.now ∷ []) counter }
+            → LanesStandFor self.new (steps ++ Submit counter event.now ∷ []) counter }
     {
         let current = self.current;
         if !self.is_full(current) && self.may_enter(current, event) {
@@ -203,7 +203,7 @@ impl Lanes {
         ensures room { into.new.room + length into.new.items ≡ into.old.room }
         ensures after { self.new ≡ without cycle self.old }
         // What the lanes stand for is the same, at the counter that reached the cycle.
-        ensures stands { (steps : List LaneStep) → (counter : ℕ) → counter ≤ cycle → StandFor self.old steps counter → StandFor self.new steps cycle }
+        ensures stands { (steps : List LaneStep) → (counter : ℕ) → counter ≤ cycle → LanesStandFor self.old steps counter → LanesStandFor self.new steps cycle }
     {
         for lane in self.lanes.iter_mut() {
             lane.drain_into(cycle, into);
@@ -219,7 +219,7 @@ impl Lanes {
         ensures room { into.new.room + length into.new.items ≡ into.old.room }
         ensures after { self.new ≡ empty_lanes (length self.old.lanes) self.old.depth }
         // They stand for nothing at any counter, and also for what they stood for with a clearing behind it.
-        ensures stands { (steps : List LaneStep) → (counter at : ℕ) → StandFor self.old steps counter → StandFor self.new (steps ++ Clear at ∷ []) counter }
+        ensures stands { (steps : List LaneStep) → (counter at : ℕ) → LanesStandFor self.old steps counter → LanesStandFor self.new (steps ++ Clear at ∷ []) counter }
     {
         self.current = 0;
         for lane in self.lanes.iter_mut() {

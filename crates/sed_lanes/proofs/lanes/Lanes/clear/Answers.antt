@@ -1,7 +1,7 @@
 use Rattle.std.proofs.Common.{◌≡◌, ◌≤◌, ◌<◌, ◌+◌, ◌++◌, ◌∷◌, [], get_or, length, map, sym, subst, ap, ◌∙◌, arith}
 use Rattle.std.specs.Vec.{with_items}
 use Rattle.std.proofs.lemmas.List.{get_or_default, length-map, with_items_is}
-use Rattle.sed_lanes.specs.Calls.{StandFor}
+use Rattle.sed_lanes.specs.Calls.{LanesStandFor}
 use Rattle.sed_lanes.specs.Lanes.{LanesState, empty_lanes, held_events}
 use Rattle.sed_lanes.specs.Heads.{HeadsState}
 use Rattle.sed_lanes.specs.Judged.{Clear}
@@ -55,5 +55,5 @@ returns-clause-stands c = λ steps counter at stands.
     let seen : state_of c.self.inside.depth 0 (with_items c.self.inside.lanes c.loop-lane.lane-items).items ≡ empty_lanes (length c.args.self.now.lanes) c.args.self.now.depth =
     ap (state_of c.self.inside.depth 0) (with_items_is c.self.inside.lanes c.loop-lane.lane-items same)
     ∙ cleared-seen c.self.inside.depth c.self.inside.current c.loop-lane.lane-index c.self.inside.lanes.items c.deref_mut-lane-items.result.now c.loop-lane.lane-items c.args.self.now c.loop-lane.into.items c.loop-lane.into.room c.args.into.now.room c.self.view_is c.deref_mut-lane-items.ensures.value done c.loop-lane.invariant in
-    subst (λ (x : LanesState). StandFor x (steps ++ Clear at ∷ []) counter) (sym seen)
+    subst (λ (x : LanesState). LanesStandFor x (steps ++ Clear at ∷ []) counter) (sym seen)
     (stands-cleared (length c.args.self.now.lanes) c.args.self.now.depth steps at counter)

@@ -1,7 +1,7 @@
 use Rattle.std.proofs.Common.{◌≡◌, ◌≤◌, ◌<◌, get_or, length, map, sym, subst, ap, ◌∙◌, arith}
 use Rattle.std.proofs.lemmas.List.{get_or_default, length-map, with_items_is}
 use Rattle.std.specs.Vec.{with_items}
-use Rattle.sed_lanes.specs.Calls.{StandFor, without}
+use Rattle.sed_lanes.specs.Calls.{LanesStandFor, without}
 use Rattle.sed_lanes.specs.Lanes.{LanesState}
 use Rattle.sed_lanes.specs.Rows.{AreLanes, row_state}
 use Rattle.sed_lanes.proofs.Accepting.{state_of}
@@ -44,5 +44,5 @@ returns-clause-stands c = λ steps counter le stands.
     drained-seen c.self.inside.depth c.self.inside.current c.args.cycle c.loop-lane.lane-index c.self.inside.lanes.items c.deref_mut-lane-items.result.now c.loop-lane.lane-items c.args.self.now c.loop-lane.into.items c.loop-lane.into.room c.args.into.now.room c.self.view_is c.deref_mut-lane-items.ensures.value done c.loop-lane.invariant in
     let whole_seen : state_of c.self.inside.depth c.self.inside.current (with_items c.self.inside.lanes c.loop-lane.lane-items).items ≡ without c.args.cycle c.args.self.now =
     ap (state_of c.self.inside.depth c.self.inside.current) (with_items_is c.self.inside.lanes c.loop-lane.lane-items same) ∙ seen in
-    subst (λ (x : LanesState). StandFor x steps c.args.cycle) (sym whole_seen)
+    subst (λ (x : LanesState). LanesStandFor x steps c.args.cycle) (sym whole_seen)
     (stands-drained c.args.self.now steps counter c.args.cycle le c.requires.none_earlier stands)

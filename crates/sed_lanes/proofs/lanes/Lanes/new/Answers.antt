@@ -1,5 +1,5 @@
 use Rattle.std.proofs.Common.{◌≡◌, [], sym, subst, arith}
-use Rattle.sed_lanes.specs.Calls.{StandFor}
+use Rattle.sed_lanes.specs.Calls.{LanesStandFor}
 use Rattle.sed_lanes.specs.Lanes.{LanesState}
 use Rattle.sed_lanes.proofs.Made.{empty-are, empty-view}
 use Rattle.sed_lanes.proofs.Standing.{stands-new}
@@ -13,4 +13,4 @@ invariant_of-result c =
 pub returns-clause-stands : goal.returns-clause-stands
 returns-clause-stands c = λ counter.
     let count : c.loop-lane._lane ≡ c.args.lanes = omega arith in
-    subst (λ (x : LanesState). StandFor x [] counter) (sym (empty-view c.loop-lane._lane c.args.depth c.loop-lane.all.items c.loop-lane.invariant.0)) (stands-new c.loop-lane._lane c.args.depth counter)
+    subst (λ (x : LanesState). LanesStandFor x [] counter) (sym (empty-view c.loop-lane._lane c.args.depth c.loop-lane.all.items c.loop-lane.invariant.0)) (stands-new c.loop-lane._lane c.args.depth counter)
