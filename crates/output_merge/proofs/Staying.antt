@@ -1,6 +1,6 @@
 -- What was put out stays: later steps change nothing up to a counter.
 use Rattle.std.proofs.Common.{◌≡◌, ◌≤◌, ℕ, List, [], ◌∷◌, ◌++◌, refl, ap, ◌∙◌, sym, arith, append_assoc, append-nil}
-use Rattle.sed_lanes.specs.Counters.{NeverFall, step_at}
+use Rattle.sed_lanes.specs.Counters.{NeverFall, lane_step_at}
 use Rattle.sed_lanes.specs.Judged.{Judged, LaneStep, Submit, Clear, Submitted, judged, lanes_after, next_number}
 use Rattle.sed_lanes.specs.Verdict.{Verdict, Underflow, Lane, Sequence, Undecided, verdict}
 use Rattle.sed_lanes.proofs.Histories.{judged-clear, judged-submit}
@@ -12,7 +12,7 @@ use Rattle.output_merge.proofs.Parts.{collided-same, live-up_to-accepted, live-u
 use Rattle.output_merge.proofs.Steps.{live-unplaced}
 
 -- a step at a counter or a later one leaves the live events up to it
-pub live-stays-step : (lanes depth : ℕ) (steps : List LaneStep) (step : LaneStep) (counter : ℕ) → counter ≤ step_at step → up_to counter (live (judged lanes depth (steps ++ step ∷ []))) ≡ up_to counter (live (judged lanes depth steps))
+pub live-stays-step : (lanes depth : ℕ) (steps : List LaneStep) (step : LaneStep) (counter : ℕ) → counter ≤ lane_step_at step → up_to counter (live (judged lanes depth (steps ++ step ∷ []))) ≡ up_to counter (live (judged lanes depth steps))
 live-stays-step lanes depth steps (Clear at) counter le =
     ap (λ (j : List Judged). up_to counter (live j)) (judged-clear lanes depth steps at) ∙ live-up_to-cleared (judged lanes depth steps) at counter le
 live-stays-step lanes depth steps (Submit at e) counter le =
@@ -36,7 +36,7 @@ pub live-stays : (lanes depth : ℕ) (steps more : List LaneStep) (counter to : 
 live-stays lanes depth steps [] counter to in_time = ap (λ (s : List LaneStep). up_to counter (live (judged lanes depth s))) (append-nil steps)
 live-stays lanes depth steps (step ∷ more) counter to in_time =
     ap (λ (s : List LaneStep). up_to counter (live (judged lanes depth s))) (sym (append_assoc steps (step ∷ []) more))
-    ∙ live-stays lanes depth (steps ++ step ∷ []) more counter to (from-later (step_at step) counter more to in_time.1 in_time.0)
+    ∙ live-stays lanes depth (steps ++ step ∷ []) more counter to (from-later (lane_step_at step) counter more to in_time.1 in_time.0)
     ∙ live-stays-step lanes depth steps step counter in_time.0
 
 -- so what was put out up to the counter stays

@@ -1,11 +1,10 @@
 // Where a pair is put into a list in order.
 
-ghost use Rattle.std.specs.Prelude.{◌≡◌, ◌≤◌, ◌<◌, ◌+◌, ◌-◌, ◌++◌, ◌∷◌, drop, length, pos, take};
-ghost use Rattle.rtio_types.specs.Time.{cycle_of};
+ghost use Rattle.std.specs.Prelude.{◌≡◌, ◌≤◌, ◌<◌, ◌+◌, ◌-◌, ◌++◌, ◌∷◌, drop, length, take};
 ghost use Rattle.output_merge.specs.Places.{stands_before};
 ghost use Rattle.sed_lanes.specs.Sorting.{inserted};
 
-use rtio_types::{Event, coarse};
+use rtio_types::{Event, cycle_of};
 use sed_lanes::Heads;
 
 /// The order of a list of events.
@@ -15,13 +14,6 @@ pub enum Order {
     PutOut,
     /// By cycle, then by channel, then by number: the order in which collisions are logged.
     Logged,
-}
-
-/// The cycle of an event; one before cycle 0 counts as 0.
-fn cycle_of(event: &Event) -> i64
-    ensures { result ≡ pos (cycle_of event.now) }
-{
-    coarse(event.stamp).max(0)
 }
 
 impl Order {
