@@ -12,7 +12,7 @@ use Rattle.rtio_types.specs.Time.{reading}
 use Rattle.rtio_types.specs.Board.{is_input}
 use Rattle.rtio_input.specs.Script.{are_edges_ok, are_rising, edge_cycle, edges_up_to, is_edge_ok}
 use Rattle.rtio_input.specs.Channel.{Unread, after_edge, after_overflow, after_read, edge_reply, nothing_unread, reply_to_stamps, without_first}
-use Rattle.rtio_input.specs.Past.{InputStep, Overflowed, Read, Reset, after_step, is_seen, step_at, unread_at, unread_from}
+use Rattle.rtio_input.specs.Past.{InputStep, Overflowed, Read, Reset, after_step, is_seen, input_step_at, unread_at, unread_from}
 use Rattle.rtio_input.proofs.Lists.{left, right, all-append, all-filter, all-weaker}
 
 abbrev are_positive : List ℤ → Bool
@@ -49,12 +49,12 @@ positive-edge u stamp here all = by-room (nat_lt (length u.stamps) 64)
 positive-from : (channel : ℕ) (edges : List Edge) (steps : List InputStep) (u : Unread) → list_all (λ x. int_le (pos 0) x.stamp) edges ≡ true → are_positive u.stamps ≡ true → are_positive (unread_from channel edges steps u).stamps ≡ true
 positive-from channel [] steps u edges_ok all = positive-steps channel steps u all
 positive-from channel (x ∷ edges) steps u edges_ok all =
-    positive-from channel edges (filter (λ s. nat_le (edge_cycle x) (step_at s)) steps)
-    (after_edge (fold (after_step channel) u (filter (λ s. nat_lt (step_at s) (edge_cycle x)) steps)) x.stamp)
+    positive-from channel edges (filter (λ s. nat_le (edge_cycle x) (input_step_at s)) steps)
+    (after_edge (fold (after_step channel) u (filter (λ s. nat_lt (input_step_at s) (edge_cycle x)) steps)) x.stamp)
     (right (int_le (pos 0) x.stamp) (list_all (λ y. int_le (pos 0) y.stamp) edges) edges_ok)
-    (positive-edge (fold (after_step channel) u (filter (λ s. nat_lt (step_at s) (edge_cycle x)) steps)) x.stamp
+    (positive-edge (fold (after_step channel) u (filter (λ s. nat_lt (input_step_at s) (edge_cycle x)) steps)) x.stamp
     (left (int_le (pos 0) x.stamp) (list_all (λ y. int_le (pos 0) y.stamp) edges) edges_ok)
-    (positive-steps channel (filter (λ s. nat_lt (step_at s) (edge_cycle x)) steps) u all))
+    (positive-steps channel (filter (λ s. nat_lt (input_step_at s) (edge_cycle x)) steps) u all))
 
 edge-positive : (x : Edge) → is_edge_ok x ≡ true → int_le (pos 0) x.stamp ≡ true
 edge-positive x ok = right (is_input x.channel) (int_le (pos 0) x.stamp) (left (is_input x.channel && int_le (pos 0) x.stamp) (int_lt x.stamp (pos 4611686018427387904)) ok)

@@ -8,7 +8,7 @@ use Rattle.rtio_types.specs.declared.event.Event.{Event}
 use Rattle.rtio_types.specs.declared.event.Edge.{Edge}
 use Rattle.rtio_types.specs.Time.{cycle_of}
 use Rattle.rtio_input.specs.Script.{edge_cycle, edges_up_to}
-use Rattle.rtio_input.specs.Past.{InputStep, Reset, are_made_by, are_put_out_by, is_after, is_seen, last_reset, last_sensitivity, last_value, may_set, sees, seen_edges, sensitivity_at, step_at}
+use Rattle.rtio_input.specs.Past.{InputStep, Reset, are_made_by, are_put_out_by, is_after, is_seen, last_reset, last_sensitivity, last_value, may_set, sees, seen_edges, sensitivity_at, input_step_at}
 use Rattle.rtio_input.specs.Calls.{are_of_cycle, sensitivity_among}
 use Rattle.rtio_input.proofs.Lists.{right, all-kept, filter-same, filter-none}
 use Rattle.rtio_input.proofs.Scripts.{earlier-stamp}
@@ -95,7 +95,7 @@ last_sensitivity-reset outputs steps counter channel by =
     none e le = and-false-last (e.channel == channel) (nat_lt counter (cycle_of e)) (le-ltb counter (cycle_of e) le)
 
 -- a step at the counter, or a later one, changes nothing at the edges up to it
-pub seen-step : (script : List Edge) (outputs : List Event) (steps : List InputStep) (s : InputStep) (counter channel : ℕ) → counter ≤ step_at s → seen_edges script outputs (steps ++ s ∷ []) counter channel ≡ seen_edges script outputs steps counter channel
+pub seen-step : (script : List Edge) (outputs : List Event) (steps : List InputStep) (s : InputStep) (counter channel : ℕ) → counter ≤ input_step_at s → seen_edges script outputs (steps ++ s ∷ []) counter channel ≡ seen_edges script outputs steps counter channel
 seen-step script outputs steps s counter channel le =
     filter-same (λ x. nat_lt 0 (edge_cycle x) && nat_le (edge_cycle x) counter) _ _ (edges_up_to counter script) (all-kept _ script)
     (λ x h. same x (leb-true (edge_cycle x) counter (right (nat_lt 0 (edge_cycle x)) (nat_le (edge_cycle x) counter) h)))

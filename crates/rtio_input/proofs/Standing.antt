@@ -12,7 +12,7 @@ use Rattle.rtio_types.specs.Time.{cycle_of}
 use Rattle.rtio_types.specs.Board.{is_input}
 use Rattle.rtio_input.specs.Script.{are_edges_ok, are_rising, edge_cycle, edges_up_to, is_edge_ok, later_edges}
 use Rattle.rtio_input.specs.Channel.{ChannelState, InputsState, Unread, after_edge, after_overflow, after_read, channel_at, closed_channel, nothing_unread}
-use Rattle.rtio_input.specs.Past.{InputStep, Overflowed, Read, Reset, StandFor, after_step, are_made_by, are_put_out_by, channel_after, is_after, is_seen, last_sensitivity, last_value, seen_edges, sees, sensitivity_at, step_at, unread_at, unread_from}
+use Rattle.rtio_input.specs.Past.{InputStep, Overflowed, Read, Reset, InputsStandFor, after_step, are_made_by, are_put_out_by, channel_after, is_after, is_seen, last_sensitivity, last_value, seen_edges, sees, sensitivity_at, input_step_at, unread_at, unread_from}
 use Rattle.rtio_input.specs.Calls.{after_ask, after_cycle, after_own_edge, after_reset, answered_steps, are_of_cycle, channel_after_cycle, closed_channels, each_channel, passed_before, sensitivity_among}
 use Rattle.rtio_input.proofs.Lists.{left, right, all-append, all-filter, all-kept, all-weaker, filter-filter, filter-same}
 use Rattle.rtio_input.proofs.Scripts.{none-yet, rising-by-cycle, up-to-next}
@@ -56,10 +56,10 @@ unread-cycle script outputs kept steps counter cycle k lt rise passed by made of
     all_new : list_all (λ x. edge_cycle x == cycle) new ≡ true
     all_new = all-kept (λ x. edge_cycle x == cycle) (later_edges counter script)
 
-    earlier : list_all (λ s. nat_lt (step_at s) cycle) steps ≡ true
-    earlier = all-weaker (λ s. nat_le (step_at s) counter) (λ s. nat_lt (step_at s) cycle) steps made (λ s h. lt-ltb (step_at s) cycle (less s (leb-true (step_at s) counter h)))
+    earlier : list_all (λ s. nat_lt (input_step_at s) cycle) steps ≡ true
+    earlier = all-weaker (λ s. nat_le (input_step_at s) counter) (λ s. nat_lt (input_step_at s) cycle) steps made (λ s h. lt-ltb (input_step_at s) cycle (less s (leb-true (input_step_at s) counter h)))
       where
-        less : (s : InputStep) → step_at s ≤ counter → step_at s < cycle
+        less : (s : InputStep) → input_step_at s ≤ counter → input_step_at s < cycle
         less s le = omega (arith, le, lt)
 
     now : (x : Edge) → (edge_cycle x == cycle) ≡ true → (x.channel == k) ≡ true → sensitivity_at (outputs ++ kept) steps x ≡ sensitivity_among (last_sensitivity outputs steps counter k) kept x
@@ -83,14 +83,14 @@ channel-cycle script outputs kept steps counter cycle k lt rise passed by made o
     ∙ ap (λ (s : ℕ). record { unread = unread_at script (outputs ++ kept) steps cycle k; sensitivity = s }) (sym (last_sensitivity-more outputs kept steps counter cycle k lt made of))
 
 -- the inputs after a cycle
-pub stands-cycle : (s : InputsState) (script : List Edge) (outputs kept : List Event) (steps : List InputStep) (counter cycle : ℕ) → counter < cycle → passed_before cycle s ≡ true → are_of_cycle cycle kept ≡ true → StandFor s script outputs steps counter → StandFor (after_cycle s cycle kept) script (outputs ++ kept) steps cycle
+pub stands-cycle : (s : InputsState) (script : List Edge) (outputs kept : List Event) (steps : List InputStep) (counter cycle : ℕ) → counter < cycle → passed_before cycle s ≡ true → are_of_cycle cycle kept ≡ true → InputsStandFor s script outputs steps counter → InputsStandFor (after_cycle s cycle kept) script (outputs ++ kept) steps cycle
 stands-cycle s script outputs kept steps counter cycle lt passed of h = record {
   ok = h.ok;
   put_out =
       all-append (λ e. nat_le (cycle_of e) cycle) outputs kept
       (all-weaker (λ e. nat_le (cycle_of e) counter) (λ e. nat_le (cycle_of e) cycle) outputs h.put_out (λ e p. le-leb (cycle_of e) cycle (up (cycle_of e) (leb-true (cycle_of e) counter p))))
       (all-weaker (λ e. cycle_of e == cycle) (λ e. nat_le (cycle_of e) cycle) kept of (λ e p. le-leb (cycle_of e) cycle (same (cycle_of e) (eqb-true (cycle_of e) cycle p))));
-  made = all-weaker (λ s. nat_le (step_at s) counter) (λ s. nat_le (step_at s) cycle) steps h.made (λ s p. le-leb (step_at s) cycle (up (step_at s) (leb-true (step_at s) counter p)));
+  made = all-weaker (λ s. nat_le (input_step_at s) counter) (λ s. nat_le (input_step_at s) cycle) steps h.made (λ s p. le-leb (input_step_at s) cycle (up (input_step_at s) (leb-true (input_step_at s) counter p)));
   left =
       ap (λ (es : List Edge). later_edges cycle es) h.left
       ∙ filter-filter (λ x. nat_lt cycle (edge_cycle x)) (λ x. nat_lt counter (edge_cycle x)) script (λ x p. lt-ltb counter (edge_cycle x) (over (edge_cycle x) (ltb-true cycle (edge_cycle x) p)));
@@ -118,21 +118,21 @@ stands-cycle s script outputs kept steps counter cycle lt passed of h = record {
         ∙ channel-cycle script outputs kept steps counter cycle k lt (right (nat_le (length script) 4096 && list_all is_edge_ok script) (are_rising script) h.ok) passes h.put_out h.made of
 
 -- what is unread with a step more
-pub unread-at-step : (script : List Edge) (outputs : List Event) (steps : List InputStep) (s : InputStep) (counter k : ℕ) → counter ≤ step_at s → unread_at script outputs (steps ++ s ∷ []) counter k ≡ after_step k (unread_at script outputs steps counter k) s
+pub unread-at-step : (script : List Edge) (outputs : List Event) (steps : List InputStep) (s : InputStep) (counter k : ℕ) → counter ≤ input_step_at s → unread_at script outputs (steps ++ s ∷ []) counter k ≡ after_step k (unread_at script outputs steps counter k) s
 unread-at-step script outputs steps s counter k le =
     ap (λ (es : List Edge). unread_from k es (steps ++ s ∷ []) nothing_unread) (seen-step script outputs steps s counter k le)
     ∙ unread-step k (seen_edges script outputs steps counter k) steps s nothing_unread
-    (all-filter (is_seen outputs steps k) (λ x. nat_le (edge_cycle x) (step_at s)) (edges_up_to counter script)
-    (all-weaker (λ x. nat_lt 0 (edge_cycle x) && nat_le (edge_cycle x) counter) (λ x. nat_le (edge_cycle x) (step_at s)) (edges_up_to counter script) (all-kept _ script)
-    (λ x h. le-leb (edge_cycle x) (step_at s) (early x (leb-true (edge_cycle x) counter (right (nat_lt 0 (edge_cycle x)) (nat_le (edge_cycle x) counter) h))))))
+    (all-filter (is_seen outputs steps k) (λ x. nat_le (edge_cycle x) (input_step_at s)) (edges_up_to counter script)
+    (all-weaker (λ x. nat_lt 0 (edge_cycle x) && nat_le (edge_cycle x) counter) (λ x. nat_le (edge_cycle x) (input_step_at s)) (edges_up_to counter script) (all-kept _ script)
+    (λ x h. le-leb (edge_cycle x) (input_step_at s) (early x (leb-true (edge_cycle x) counter (right (nat_lt 0 (edge_cycle x)) (nat_le (edge_cycle x) counter) h))))))
   where
-    early : (x : Edge) → edge_cycle x ≤ counter → edge_cycle x ≤ step_at s
+    early : (x : Edge) → edge_cycle x ≤ counter → edge_cycle x ≤ input_step_at s
     early x less = omega (arith, less, le)
 
-made-step : (steps : List InputStep) (s : InputStep) (counter : ℕ) → step_at s ≤ counter → are_made_by counter steps ≡ true → are_made_by counter (steps ++ s ∷ []) ≡ true
+made-step : (steps : List InputStep) (s : InputStep) (counter : ℕ) → input_step_at s ≤ counter → are_made_by counter steps ≡ true → are_made_by counter (steps ++ s ∷ []) ≡ true
 made-step steps s counter le made =
-    let here : nat_le (step_at s) counter ≡ true = le-leb (step_at s) counter le in
-    all-append (λ t. nat_le (step_at t) counter) steps (s ∷ []) made (ap (λ (b : Bool). b && true) here)
+    let here : nat_le (input_step_at s) counter ≡ true = le-leb (input_step_at s) counter le in
+    all-append (λ t. nat_le (input_step_at t) counter) steps (s ∷ []) made (ap (λ (b : Bool). b && true) here)
 
 -- one input has other edges unread
 set-unread : (f g : ℕ → ChannelState) (cs : List ChannelState) (channel : ℕ) (change : Unread → Unread) → cs ≡ map f inputs → IsInput channel → g channel ≡ record (f channel) { unread = change (f channel).unread } → ((k : ℕ) → k ≢ channel → f k ≡ g k) → set cs (channel - 24) (record (channel_at cs channel) { unread = change (channel_at cs channel).unread }) ≡ map g inputs
@@ -142,7 +142,7 @@ set-unread f g cs channel change seen is here other =
     (ap (λ (c : ChannelState). record c { unread = change c.unread }) (channel_at-map f channel is) ∙ sym here) other
 
 -- the inputs after an edge was read
-stands-read : (s : InputsState) (script : List Edge) (outputs : List Event) (steps : List InputStep) (counter channel : ℕ) → IsInput channel → StandFor s script outputs steps counter → StandFor (record s { channels = set s.channels (channel - 24) (record (channel_at s.channels channel) { unread = after_read (channel_at s.channels channel).unread }) }) script outputs (steps ++ Read counter channel ∷ []) counter
+stands-read : (s : InputsState) (script : List Edge) (outputs : List Event) (steps : List InputStep) (counter channel : ℕ) → IsInput channel → InputsStandFor s script outputs steps counter → InputsStandFor (record s { channels = set s.channels (channel - 24) (record (channel_at s.channels channel) { unread = after_read (channel_at s.channels channel).unread }) }) script outputs (steps ++ Read counter channel ∷ []) counter
 stands-read s script outputs steps counter channel is h = record {
   ok = h.ok;
   put_out = h.put_out;
@@ -166,7 +166,7 @@ stands-read s script outputs steps counter channel is h = record {
     other k differs = sym (at k false (ne_eqb channel k (λ e. differs (sym e))))
 
 -- the inputs after an overflow was told
-stands-told : (s : InputsState) (script : List Edge) (outputs : List Event) (steps : List InputStep) (counter channel : ℕ) → IsInput channel → StandFor s script outputs steps counter → StandFor (record s { channels = set s.channels (channel - 24) (record (channel_at s.channels channel) { unread = after_overflow (channel_at s.channels channel).unread }) }) script outputs (steps ++ Overflowed counter channel ∷ []) counter
+stands-told : (s : InputsState) (script : List Edge) (outputs : List Event) (steps : List InputStep) (counter channel : ℕ) → IsInput channel → InputsStandFor s script outputs steps counter → InputsStandFor (record s { channels = set s.channels (channel - 24) (record (channel_at s.channels channel) { unread = after_overflow (channel_at s.channels channel).unread }) }) script outputs (steps ++ Overflowed counter channel ∷ []) counter
 stands-told s script outputs steps counter channel is h = record {
   ok = h.ok;
   put_out = h.put_out;
@@ -190,9 +190,9 @@ stands-told s script outputs steps counter channel is h = record {
     other k differs = sym (at k false (ne_eqb channel k (λ e. differs (sym e))))
 
 -- the inputs after a reply that changes nothing
-stands-same : (s : InputsState) (script : List Edge) (outputs : List Event) (steps : List InputStep) (counter channel : ℕ) → IsInput channel → StandFor s script outputs steps counter → StandFor (record s { channels = set s.channels (channel - 24) (record (channel_at s.channels channel) { unread = (channel_at s.channels channel).unread }) }) script outputs (steps ++ []) counter
+stands-same : (s : InputsState) (script : List Edge) (outputs : List Event) (steps : List InputStep) (counter channel : ℕ) → IsInput channel → InputsStandFor s script outputs steps counter → InputsStandFor (record s { channels = set s.channels (channel - 24) (record (channel_at s.channels channel) { unread = (channel_at s.channels channel).unread }) }) script outputs (steps ++ []) counter
 stands-same s script outputs steps counter channel is h =
-    subst (λ (ss : List InputStep). StandFor (record s { channels = set s.channels (channel - 24) (record (channel_at s.channels channel) { unread = (channel_at s.channels channel).unread }) }) script outputs ss counter) (sym (append-nil steps))
+    subst (λ (ss : List InputStep). InputsStandFor (record s { channels = set s.channels (channel - 24) (record (channel_at s.channels channel) { unread = (channel_at s.channels channel).unread }) }) script outputs ss counter) (sym (append-nil steps))
     (record {
       ok = h.ok;
       put_out = h.put_out;
@@ -202,13 +202,13 @@ stands-same s script outputs steps counter channel is h =
     })
 
 -- the inputs after a reply to a request for an edge
-pub stands-asked : (s : InputsState) (script : List Edge) (outputs : List Event) (steps : List InputStep) (counter channel : ℕ) (reply : Option Reply) → is_input channel ≡ true → StandFor s script outputs steps counter → StandFor (after_ask s channel reply) script outputs (steps ++ answered_steps counter channel reply) counter
+pub stands-asked : (s : InputsState) (script : List Edge) (outputs : List Event) (steps : List InputStep) (counter channel : ℕ) (reply : Option Reply) → is_input channel ≡ true → InputsStandFor s script outputs steps counter → InputsStandFor (after_ask s channel reply) script outputs (steps ++ answered_steps counter channel reply) counter
 stands-asked s script outputs steps counter channel (Some (answer.Stamp x)) is h = stands-read s script outputs steps counter channel (input-range channel is) h
 stands-asked s script outputs steps counter channel (Some answer.Overflow) is h = stands-told s script outputs steps counter channel (input-range channel is) h
 stands-asked s script outputs steps counter channel reply is h = stands-same s script outputs steps counter channel (input-range channel is) h
 
 -- the inputs after a reset
-pub stands-reset : (s : InputsState) (script : List Edge) (outputs : List Event) (steps : List InputStep) (counter : ℕ) → StandFor s script outputs steps counter → StandFor (after_reset s) script outputs (steps ++ Reset counter ∷ []) counter
+pub stands-reset : (s : InputsState) (script : List Edge) (outputs : List Event) (steps : List InputStep) (counter : ℕ) → InputsStandFor s script outputs steps counter → InputsStandFor (after_reset s) script outputs (steps ++ Reset counter ∷ []) counter
 stands-reset s script outputs steps counter h = record {
   ok = h.ok;
   put_out = h.put_out;
@@ -223,7 +223,7 @@ stands-reset s script outputs steps counter h = record {
         ∙ ap (λ (v : ℕ). record { unread = nothing_unread; sensitivity = v }) (last_sensitivity-reset outputs steps counter k h.put_out)
 
 -- the inputs at the beginning
-pub stands-new : (edges left : List Edge) (channels : List ChannelState) → are_edges_ok edges ≡ true → left ≡ later_edges 0 edges → channels ≡ closed_channels → StandFor (state_of left channels) edges [] [] 0
+pub stands-new : (edges left : List Edge) (channels : List ChannelState) → are_edges_ok edges ≡ true → left ≡ later_edges 0 edges → channels ≡ closed_channels → InputsStandFor (state_of left channels) edges [] [] 0
 stands-new edges left channels ok is closed = record {
   ok = ok;
   put_out = refl;
@@ -236,6 +236,6 @@ stands-new edges left channels ok is closed = record {
     first k = ap (λ (es : List Edge). record { unread = unread_from k (filter (is_seen [] [] k) es) [] nothing_unread; sensitivity = 0 }) (none-yet edges)
 
 -- the input of a channel
-pub channel-stands : (s : InputsState) (script : List Edge) (outputs : List Event) (steps : List InputStep) (counter channel : ℕ) → is_input channel ≡ true → StandFor s script outputs steps counter → channel_at s.channels channel ≡ channel_after script outputs steps counter channel
+pub channel-stands : (s : InputsState) (script : List Edge) (outputs : List Event) (steps : List InputStep) (counter channel : ℕ) → is_input channel ≡ true → InputsStandFor s script outputs steps counter → channel_at s.channels channel ≡ channel_after script outputs steps counter channel
 channel-stands s script outputs steps counter channel is h =
     ap (λ (cs : List ChannelState). channel_at cs channel) h.channels ∙ channel_at-map (channel_after script outputs steps counter) channel (input-range channel is)

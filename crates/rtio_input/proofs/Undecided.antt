@@ -9,7 +9,7 @@ use Rattle.rtio_types.specs.declared.request.Reply.TheVariants as answer
 use Rattle.rtio_types.specs.Time.{reading}
 use Rattle.rtio_input.specs.Script.{are_edges_ok, are_rising, edge_cycle, is_edge_ok, later_edges}
 use Rattle.rtio_input.specs.Channel.{InputsState, Unread, after_edge, edge_reply, reply_to_stamps}
-use Rattle.rtio_input.specs.Past.{InputStep, StandFor, are_made_by, are_put_out_by, last_sensitivity, sees, unread_at}
+use Rattle.rtio_input.specs.Past.{InputStep, InputsStandFor, are_made_by, are_put_out_by, last_sensitivity, sees, unread_at}
 use Rattle.rtio_input.specs.Calls.{after_own_edge, are_of_cycle, passed_before, sensitivity_among}
 use Rattle.rtio_input.proofs.Lists.{right, all-kept, all-weaker}
 use Rattle.rtio_input.proofs.Standing.{unread-cycle}
@@ -102,7 +102,7 @@ next-passed counter edges = all-weaker (λ x. nat_lt counter (edge_cycle x)) (λ
     over n lt = omega (arith, lt)
 
 -- what inputs ask of the next cycle holds where they stand for a past up to the counter
-pub passes-next : (s : InputsState) (script : List Edge) (outputs : List Event) (steps : List InputStep) (counter : ℕ) → StandFor s script outputs steps counter → passed_before (counter + 1) s ≡ true
+pub passes-next : (s : InputsState) (script : List Edge) (outputs : List Event) (steps : List InputStep) (counter : ℕ) → InputsStandFor s script outputs steps counter → passed_before (counter + 1) s ≡ true
 passes-next s script outputs steps counter h = ap (λ es. list_all (λ x. nat_le (counter + 1) (edge_cycle x)) es) h.left ∙ next-passed counter script
 
 -- undecided at the next counter, undecided at this one

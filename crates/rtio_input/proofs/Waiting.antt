@@ -8,7 +8,7 @@ use Rattle.rtio_types.specs.declared.event.Event.{Event}
 use Rattle.rtio_types.specs.Time.{cycle_of}
 use Rattle.rtio_input.specs.Script.{edge_cycle, edges_up_to, later_edges}
 use Rattle.rtio_input.specs.Channel.{InputsState, nothing_unread}
-use Rattle.rtio_input.specs.Past.{InputStep, StandFor, channel_after, is_after, is_seen, last_sensitivity, last_value, step_at, unread_at, unread_from}
+use Rattle.rtio_input.specs.Past.{InputStep, InputsStandFor, channel_after, is_after, is_seen, last_sensitivity, last_value, input_step_at, unread_at, unread_from}
 use Rattle.rtio_input.specs.Calls.{passed}
 use Rattle.rtio_input.proofs.Lists.{all-weaker, left, right}
 use Rattle.rtio_input.proofs.Resets.{last_reset-same}
@@ -47,11 +47,11 @@ same-edges from to (x ∷ edges) le none = at (nat_lt from (edge_cycle x)) refl 
         record { later = both.0; gone = both.1 }
 
 -- inputs stand for the same past at a later counter
-pub stands-later : (s : InputsState) (script : List Edge) (outputs : List Event) (steps : List InputStep) (from to : ℕ) → from ≤ to → passed to s ≡ true → StandFor s script outputs steps from → StandFor s script outputs steps to
+pub stands-later : (s : InputsState) (script : List Edge) (outputs : List Event) (steps : List InputStep) (from to : ℕ) → from ≤ to → passed to s ≡ true → InputsStandFor s script outputs steps from → InputsStandFor s script outputs steps to
 stands-later s script outputs steps from to le none h = record {
   ok = h.ok;
   put_out = all-weaker (λ e. nat_le (cycle_of e) from) (λ e. nat_le (cycle_of e) to) outputs h.put_out (λ e p. le-leb (cycle_of e) to (up (cycle_of e) (leb-true (cycle_of e) from p)));
-  made = all-weaker (λ s. nat_le (step_at s) from) (λ s. nat_le (step_at s) to) steps h.made (λ s p. le-leb (step_at s) to (up (step_at s) (leb-true (step_at s) from p)));
+  made = all-weaker (λ s. nat_le (input_step_at s) from) (λ s. nat_le (input_step_at s) to) steps h.made (λ s p. le-leb (input_step_at s) to (up (input_step_at s) (leb-true (input_step_at s) from p)));
   left = h.left ∙ sym same.later;
   channels = h.channels ∙ map-inputs (channel_after script outputs steps from) (channel_after script outputs steps to) (λ k is. one k);
 }

@@ -14,10 +14,10 @@ pub data InputStep : Type 0 where
   Reset : (at : ℕ) → InputStep
 
 -- the counter at which it happened
-abbrev pub step_at : InputStep → ℕ
-step_at (Read at channel) = at
-step_at (Overflowed at channel) = at
-step_at (Reset at) = at
+abbrev pub input_step_at : InputStep → ℕ
+input_step_at (Read at channel) = at
+input_step_at (Overflowed at channel) = at
+input_step_at (Reset at) = at
 
 -- the counter of the last reset before a cycle, when one step more is looked at
 abbrev pub reset_before : ℕ → Option ℕ → InputStep → Option ℕ
@@ -71,8 +71,8 @@ abbrev pub unread_from : ℕ → List Edge → List InputStep → Unread → Unr
 unread_from channel [] steps u = fold (after_step channel) u steps
 unread_from channel (x ∷ edges) steps u =
     unread_from channel edges
-    (filter (λ s. nat_le (edge_cycle x) (step_at s)) steps)
-    (after_edge (fold (after_step channel) u (filter (λ s. nat_lt (step_at s) (edge_cycle x)) steps)) x.stamp)
+    (filter (λ s. nat_le (edge_cycle x) (input_step_at s)) steps)
+    (after_edge (fold (after_step channel) u (filter (λ s. nat_lt (input_step_at s) (edge_cycle x)) steps)) x.stamp)
 
 -- what an input has unread at a counter, by the script, the events put out up to the counter, and the steps
 abbrev pub unread_at : List Edge → List Event → List InputStep → ℕ → ℕ → Unread
@@ -97,10 +97,10 @@ are_put_out_by counter outputs = list_all (λ e. nat_le (cycle_of e) counter) ou
 
 -- the steps were made no later than at the counter
 abbrev pub are_made_by : ℕ → List InputStep → Bool
-are_made_by counter steps = list_all (λ s. nat_le (step_at s) counter) steps
+are_made_by counter steps = list_all (λ s. nat_le (input_step_at s) counter) steps
 
 -- the inputs are those that the script, the events put out and the steps leave at the counter
-pub record StandFor (s : InputsState) (script : List Edge) (outputs : List Event) (steps : List InputStep) (counter : ℕ) : Type 0 where
+pub record InputsStandFor (s : InputsState) (script : List Edge) (outputs : List Event) (steps : List InputStep) (counter : ℕ) : Type 0 where
   pub ok : IsTrue (are_edges_ok script)
   pub put_out : IsTrue (are_put_out_by counter outputs)
   pub made : IsTrue (are_made_by counter steps)

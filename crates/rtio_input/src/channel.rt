@@ -1,11 +1,12 @@
 // One input, with its unread edges.
 
-ghost use Rattle.std.specs.Prelude.{◌≡◌, IfOk, is_some};
+ghost use Rattle.std.specs.Prelude.{◌≡◌, IfOk, int_le, is_some, pos};
+ghost use Rattle.rtio_types.specs.Time.{reading};
 ghost use Rattle.rtio_input.specs.Channel.{after_edge, closed_channel, edge_reply};
 ghost use Rattle.rtio_input.specs.Calls.{after_own_edge, after_reply, sensitivity_among};
 ghost use Rattle.rtio_input.specs.Past.{sees};
 
-use rtio_types::{Edge, Event, Reply};
+use rtio_types::{Edge, Event, MU_PER_CYCLE, Reply};
 use std::alloc::{AllocError, Global};
 use std::collections::VecDeque;
 use std::marker::Model;
@@ -42,6 +43,13 @@ fn sees(sensitivity: u32, rising: bool) -> bool
     } else {
         sensitivity / 2 % 2 == 1
     }
+}
+
+// Whether what the counter reads has come to a moment (mu).
+fn has_reached(counter: u64, moment: i64) -> bool
+    ensures { result ≡ int_le moment (pos (reading counter)) }
+{
+    i128::from(moment) <= i128::from(MU_PER_CYCLE) * i128::from(counter)
 }
 
 impl Channel {
@@ -112,7 +120,7 @@ impl Channel {
                 Some(Reply::Stamp(stamp))
             }
             Some(_) => Some(Reply::NoEdge),
-            None if i128::from(up_to) <= 8 * i128::from(counter) => Some(Reply::NoEdge),
+            None if has_reached(counter, up_to) => Some(Reply::NoEdge),
             None => None,
         }
     }
@@ -121,7 +129,7 @@ impl Channel {
     pub fn is_decided(&self, counter: u64, up_to: i64) -> bool
         ensures { result ≡ is_some (edge_reply self.now.unread counter up_to) }
     {
-        self.overflow || !self.unread.is_empty() || i128::from(up_to) <= 8 * i128::from(counter)
+        self.overflow || !self.unread.is_empty() || has_reached(counter, up_to)
     }
 
     /// Forgets the unread edges, the mark and the sensitivity.

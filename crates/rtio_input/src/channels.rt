@@ -6,8 +6,7 @@ ghost use Rattle.rtio_input.specs.Script.{are_of_inputs};
 ghost use Rattle.rtio_input.specs.Calls.{after_edges, after_events, channel_after_cycle, closed_channels, each_channel};
 
 use crate::channel::Channel;
-use crate::script::is_input;
-use rtio_types::{Edge, Event};
+use rtio_types::{Edge, Event, is_input};
 use std::alloc::{AllocError, Global};
 
 const COUNT: usize = 8;

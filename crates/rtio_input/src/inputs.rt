@@ -6,11 +6,8 @@ ghost use Rattle.rtio_types.specs.declared.event.Edge.{Edge};
 ghost use Rattle.rtio_types.specs.declared.event.Event.{Event};
 ghost use Rattle.rtio_input.specs.Script.{are_edges_ok, later_edges};
 ghost use Rattle.rtio_input.specs.Channel.{channel_at, edge_reply};
-ghost use Rattle.rtio_input.specs.Past.{InputStep, Reset, StandFor, unread_at};
+ghost use Rattle.rtio_input.specs.Past.{InputStep, Reset, InputsStandFor, unread_at};
 ghost use Rattle.rtio_input.specs.Calls.{after_ask, after_cycle, after_reset, answered_steps, are_of_cycle, closed_channels, passed_before};
-
-#[cfg(test)]
-mod tests;
 
 use crate::channel::Channel;
 use crate::channels::{FIRST, close_all, closed_channels, pass_cycle};
@@ -42,7 +39,7 @@ impl Inputs {
     pub fn new(alloc: Global, edges: &[Edge]) -> Result<Inputs, AllocError>
         requires { IsTrue (are_edges_ok edges.now) }
         ensures fresh { IfOk result (λ new. new ≡ record { left = later_edges 0 edges.now; channels = closed_channels }) }
-        ensures stands { IfOk result (λ new. StandFor new edges.now [] [] 0) }
+        ensures stands { IfOk result (λ new. InputsStandFor new edges.now [] [] 0) }
     {
         let left = edges_to_come(alloc, edges)?;
         Ok(Inputs {
@@ -59,8 +56,8 @@ impl Inputs {
         ensures after { self.new ≡ after_cycle self.old cycle kept.now }
         // What the inputs stand for has grown by the cycle, at the counter that reached it.
         ensures stands { (script : List Edge) (outputs : List Event) (steps : List InputStep) (counter : ℕ) → counter < cycle
-            → StandFor self.old script outputs steps counter
-            → StandFor self.new script (outputs ++ kept.now) steps cycle }
+            → InputsStandFor self.old script outputs steps counter
+            → InputsStandFor self.new script (outputs ++ kept.now) steps cycle }
     {
         let count = count_at(self.script.left(), cycle);
         pass_cycle(&mut self.channels, &self.script.left()[..count], kept);
@@ -76,11 +73,11 @@ impl Inputs {
         ensures after { self.new ≡ after_ask self.old channel result }
         // It is the reply by all that happened, where the inputs stand for that, and it is a step more of it.
         ensures right { (script : List Edge) (outputs : List Event) (steps : List InputStep)
-            → StandFor self.old script outputs steps counter
+            → InputsStandFor self.old script outputs steps counter
             → result ≡ edge_reply (unread_at script outputs steps counter channel) counter up_to }
         ensures stands { (script : List Edge) (outputs : List Event) (steps : List InputStep)
-            → StandFor self.old script outputs steps counter
-            → StandFor self.new script outputs (steps ++ answered_steps counter channel result) counter }
+            → InputsStandFor self.old script outputs steps counter
+            → InputsStandFor self.new script outputs (steps ++ answered_steps counter channel result) counter }
     {
         self.channels[(channel - FIRST) as usize].answer(counter, up_to)
     }
@@ -91,7 +88,7 @@ impl Inputs {
         ensures value { result ≡ is_some (edge_reply (channel_at self.now.channels channel).unread counter up_to) }
         // It is so by all that happened, where the inputs stand for that.
         ensures right { (script : List Edge) (outputs : List Event) (steps : List InputStep)
-            → StandFor self.now script outputs steps counter
+            → InputsStandFor self.now script outputs steps counter
             → result ≡ is_some (edge_reply (unread_at script outputs steps counter channel) counter up_to) }
     {
         self.channels[(channel - FIRST) as usize].is_decided(counter, up_to)
@@ -102,8 +99,8 @@ impl Inputs {
         ensures after { self.new ≡ after_reset self.old }
         // What the inputs stand for has a reset more.
         ensures stands { (script : List Edge) (outputs : List Event) (steps : List InputStep) (counter : ℕ)
-            → StandFor self.old script outputs steps counter
-            → StandFor self.new script outputs (steps ++ Reset counter ∷ []) counter }
+            → InputsStandFor self.old script outputs steps counter
+            → InputsStandFor self.new script outputs (steps ++ Reset counter ∷ []) counter }
     {
         close_all(&mut self.channels);
     }

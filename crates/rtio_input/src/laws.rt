@@ -8,7 +8,7 @@ ghost use Rattle.rtio_types.specs.declared.request.Request.TheVariants as kind;
 ghost use Rattle.rtio_types.specs.Requests.{fits_request};
 ghost use Rattle.rtio_input.specs.Script.{are_edges_ok};
 ghost use Rattle.rtio_input.specs.Channel.{InputsState, edge_reply};
-ghost use Rattle.rtio_input.specs.Past.{InputStep, StandFor, are_made_by, are_put_out_by, unread_at};
+ghost use Rattle.rtio_input.specs.Past.{InputStep, InputsStandFor, are_made_by, are_put_out_by, unread_at};
 ghost use Rattle.rtio_input.specs.Calls.{are_of_cycle, passed};
 
 /// What is decided stays decided while nothing is asked: a request for an edge that isn't decided at the next counter
@@ -25,7 +25,7 @@ pub fn a_decided_edge_stays_decided()
 /// past.
 pub fn no_edge_no_change()
     ensures { (s : InputsState) (script : List Edge) (outputs : List Event) (steps : List InputStep) (from to : ℕ) →
-        from ≤ to → passed to s ≡ true → StandFor s script outputs steps from → StandFor s script outputs steps to }
+        from ≤ to → passed to s ≡ true → InputsStandFor s script outputs steps from → InputsStandFor s script outputs steps to }
 {}
 
 /// Each reply to a request for an edge is one that it may get: stamps are at least 0.

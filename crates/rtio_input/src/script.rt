@@ -2,10 +2,9 @@
 
 ghost use Rattle.std.specs.Prelude.{◌≡◌, ◌<◌, ◌^◌};
 ghost use Rattle.std.specs.List.{list_all};
-ghost use Rattle.rtio_types.specs.Board.{is_input};
 ghost use Rattle.rtio_input.specs.Script.{are_by_cycle, are_edges_ok, are_rising, edge_cycle, is_edge_before, is_edge_ok};
 
-use rtio_types::{ChannelKind, Edge, coarse, kind_of};
+use rtio_types::{Edge, coarse, is_input};
 use std::alloc::{AllocError, Global};
 use std::marker::Model;
 
@@ -21,18 +20,11 @@ pub fn edges_ok(edges: &[Edge]) -> bool
     edges.len() <= EDGES_MOST && are_ok(edges) && are_rising(edges)
 }
 
-/// The cycle of an edge.
-pub fn cycle_of(edge: &Edge) -> u64
+/// The cycle of an edge, as that of an event.
+pub fn edge_cycle(edge: &Edge) -> u64
     ensures { result ≡ edge_cycle edge.now }
 {
     coarse(edge.stamp).max(0) as u64
-}
-
-/// Whether the channel is an input of the board.
-pub fn is_input(channel: u8) -> bool
-    ensures { result ≡ is_input channel }
-{
-    matches!(kind_of(channel), Some(ChannelKind::Input))
 }
 
 fn edge_ok(edge: &Edge) -> bool
@@ -81,7 +73,7 @@ pub fn edges_to_come(alloc: Global, edges: &[Edge]) -> Result<Vec<Edge>, AllocEr
     edges
         .iter()
         .copied()
-        .filter(|edge| 0 < cycle_of(edge))
+        .filter(|edge| 0 < edge_cycle(edge))
         .collect(alloc)
 }
 
@@ -105,7 +97,7 @@ fn count_first(edges: &[Edge], cycle: u64) -> usize
 {
     edges
         .iter()
-        .take_while(|edge| cycle_of(edge) == cycle)
+        .take_while(|edge| edge_cycle(edge) == cycle)
         .count()
 }
 

@@ -2,7 +2,7 @@ use Rattle.std.proofs.Common.{rules, ◌∙◌, ap, sym, subst, ◌++◌, arith}
 use Rattle.std.proofs.lemmas.Grind.{common_steps}
 use Rattle.rtio_input.specs.Channel.{ChannelState, InputsState, edge_reply}
 use Rattle.rtio_input.specs.Calls.{answered_steps}
-use Rattle.rtio_input.specs.Past.{StandFor}
+use Rattle.rtio_input.specs.Past.{InputsStandFor}
 use Rattle.rtio_input.proofs.Standing.{channel-stands, stands-asked}
 use Rattle.rtio_input.proofs.inputs.Inputs.ask_edge.Goals as goal
 
@@ -20,5 +20,5 @@ returns-clause-right c = λ script outputs steps stands.
 
 pub returns-clause-stands : goal.returns-clause-stands
 returns-clause-stands c = λ script outputs steps stands.
-    subst (λ (x : InputsState). StandFor x script outputs (steps ++ answered_steps c.args.counter c.args.channel c.answer.result) c.args.counter) (sym (returns-clause-after c))
+    subst (λ (x : InputsState). InputsStandFor x script outputs (steps ++ answered_steps c.args.counter c.args.channel c.answer.result) c.args.counter) (sym (returns-clause-after c))
     (stands-asked c.args.self.now script outputs steps c.args.counter c.args.channel c.answer.result c.requires stands)

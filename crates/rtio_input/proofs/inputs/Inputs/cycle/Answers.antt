@@ -3,7 +3,7 @@ use Rattle.std.specs.Vec.{with_items}
 use Rattle.std.proofs.lemmas.List.{with_items_is}
 use Rattle.rtio_input.specs.Channel.{ChannelState, InputsState}
 use Rattle.rtio_input.specs.Calls.{AreInputs, channel_after_cycle}
-use Rattle.rtio_input.specs.Past.{StandFor}
+use Rattle.rtio_input.specs.Past.{InputsStandFor}
 use Rattle.rtio_input.proofs.Made.{cycled-inputs, cycled-seen, own-take, whole}
 use Rattle.rtio_input.proofs.Standing.{stands-cycle}
 use Rattle.rtio_input.proofs.inputs.Inputs.cycle.Goals as goal
@@ -25,5 +25,5 @@ returns-clause-after c =
 
 pub returns-clause-stands : goal.returns-clause-stands
 returns-clause-stands c = λ script outputs steps counter lt stands.
-    subst (λ (x : InputsState). StandFor x script (outputs ++ c.args.kept.now) steps c.args.cycle) (sym (returns-clause-after c))
+    subst (λ (x : InputsState). InputsStandFor x script (outputs ++ c.args.kept.now) steps c.args.cycle) (sym (returns-clause-after c))
     (stands-cycle c.args.self.now script outputs c.args.kept.now steps counter c.args.cycle lt c.requires.none_skipped c.requires.put_out stands)
