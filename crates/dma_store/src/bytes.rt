@@ -2,14 +2,13 @@
 
 ghost use Rattle.std.specs.Prelude.{◌≡◌, ◌↔◌, ◌<◌, ◌≤◌, ◌^◌, ◌++◌, ℕ, Some, length, FitsSigned, IsTrue, IfOk, OnOk, MatchResult};
 ghost use Rattle.std.specs.Int.{w64};
-ghost use Rattle.rtio_types.specs.Board.{kind_of_channel, has_address};
 ghost use Rattle.rtio_types.specs.Recordings.{Recorded};
 ghost use Rattle.dma_store.specs.Kept.{is_playable};
 ghost use Rattle.dma_store.specs.Reading.{event_read, events_read, length_read};
 ghost use Rattle.dma_store.specs.Spelling.{IsSpelling, FitsFields, header_spelling, event_spelling};
 ghost use Rattle.dma_store.specs.Spelling.{first_wrong, wrong_among, header_fields, event_fields, fields_of_events, event_count};
 
-use rtio_types::{ChannelKind, Event, Recording, kind_of};
+use rtio_types::{Event, Recording, has_address};
 use std::alloc::{AllocError, Global};
 
 // The one format that there is.
@@ -192,17 +191,5 @@ fn wrong_in_event(bytes: &[u8], at: usize) -> Option<u64>
         Some(at as u64 + 6)
     } else {
         None
-    }
-}
-
-// Whether the board has the channel, and the channel the address.
-fn has_address(channel: u8, address: u8) -> bool
-    ensures { result ≡ has_address (kind_of_channel channel) address }
-{
-    match kind_of(channel) {
-        Some(ChannelKind::Out) => address == 0,
-        Some(ChannelKind::OutRaw) => true,
-        Some(ChannelKind::Input) => address == 2,
-        None => false,
     }
 }

@@ -5,8 +5,6 @@
 mod bytes;
 mod laws;
 mod store;
-#[cfg(test)]
-mod tests;
 
 pub use bytes::{DmaEnd, decode, encode};
 pub use laws::{
