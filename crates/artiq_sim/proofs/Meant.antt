@@ -12,7 +12,7 @@ use Rattle.rtio_types.specs.declared.request.Request.TheVariants as Q
 use Rattle.rtio_types.specs.declared.request.Reply.{Reply}
 use Rattle.rtio_types.specs.declared.request.Reply.TheVariants as R
 use Rattle.rtio_types.specs.declared.request.Value.{Value}
-use Rattle.rtio_types.specs.Board.{name_of_channel, is_of_board}
+use Rattle.rtio_types.specs.Board.{name_of_channel, is_of_board, is_output}
 use Rattle.rtio_types.specs.Time.{later}
 use Rattle.kern_syntax.specs.declared.expression.UnaryOperator.TheVariants.{Negate}
 use Rattle.kern_syntax.specs.Tree.{Bytes, Expression, integer, unary, method, no_more, value_then, Statement, evaluate, Block, done, line_then, FunctionTree}
@@ -83,14 +83,14 @@ module _ (scope : Scope) (callee : Callee) where
   abbrev performed : State → Option Operation → Completion ⊤
   performed s operation = go_on (perform_method operation [] [] s) (λ a. skip)
 
-  on_asks : (c : ℕ) → c < 24 → (cursor : ℤ) → AsksOutput (evaluate (method (name_of_channel c) (codes "on") no_more)) cursor (record { channel = c; address = 0; value = 1; stamp = cursor })
+  on_asks : (c : ℕ) → is_output c ≡ true → (cursor : ℤ) → AsksOutput (evaluate (method (name_of_channel c) (codes "on") no_more)) cursor (record { channel = c; address = 0; value = 1; stamp = cursor })
   on_asks c below cursor = record {
     accepted = λ values left rest asked. ap (performed (playing values cursor (suc left) (R.Done ∷ rest) asked)) (on_of_name c below);
     refused = λ values left rest asked. ap (performed (playing values cursor (suc left) (R.Underflow ∷ rest) asked)) (on_of_name c below);
     stands = λ values left asked. ap (performed (playing values cursor (suc left) [] asked)) (on_of_name c below);
   }
 
-  off_asks : (c : ℕ) → c < 24 → (cursor : ℤ) → AsksOutput (evaluate (method (name_of_channel c) (codes "off") no_more)) cursor (record { channel = c; address = 0; value = 0; stamp = cursor })
+  off_asks : (c : ℕ) → is_output c ≡ true → (cursor : ℤ) → AsksOutput (evaluate (method (name_of_channel c) (codes "off") no_more)) cursor (record { channel = c; address = 0; value = 0; stamp = cursor })
   off_asks c below cursor = record {
     accepted = λ values left rest asked. ap (performed (playing values cursor (suc left) (R.Done ∷ rest) asked)) (off_of_name c below);
     refused = λ values left rest asked. ap (performed (playing values cursor (suc left) (R.Underflow ∷ rest) asked)) (off_of_name c below);

@@ -4,7 +4,7 @@ use Rattle.std.proofs.Math.Seq.{drop-cons}
 use Rattle.std.specs.Prelude.{suc, codes, ◌&&◌, ◌||◌, bytes_eq}
 use Rattle.std.proofs.lemmas.Bool.Decides.{nat_tests}
 use Rattle.std.proofs.lemmas.Slice.Eq.{bytes_eq-Decides}
-use Rattle.rtio_types.specs.Board.{name_of_channel, channel_of_name}
+use Rattle.rtio_types.specs.Board.{name_of_channel, channel_of_name, is_output}
 use Rattle.kern_syntax.specs.declared.expression.Argument.{Argument}
 use Rattle.kern_syntax.specs.declared.expression.Argument.TheFolds.{the_lemmas}
 use Rattle.kern_syntax.specs.declared.statement.Stmt.{Stmt}
@@ -149,10 +149,8 @@ other_function function args e one no_at no_delay =
 -- ---- channels
 
 -- a channel's name
-pub channel_named : (name : Bytes) (number : ℕ) → Some number ≡ channel_of_name name → number < 24 → (is_output_channel (channel_of_name name) ≡ true) × (name ≡ name_of_channel number)
-channel_named name number found below =
-    let lt : nat_lt number 24 ≡ true = grind (arith, nat_tests) in
-    (rw (← found) lt, sym (name_of_found name number found))
+pub channel_named : (name : Bytes) (number : ℕ) → Some number ≡ channel_of_name name → is_output number ≡ true → (is_output_channel (channel_of_name name) ≡ true) × (name ≡ name_of_channel number)
+channel_named name number found is = (rw (← found) is, sym (name_of_found name number found))
 
 -- ---- statements
 

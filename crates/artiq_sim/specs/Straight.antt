@@ -1,6 +1,6 @@
 -- Straight programs: a `main` of constant calls; else the first line that is wrong.
 use Rattle.std.specs.Prelude.{ℕ, ◌^◌, List, [], ◌∷◌, Bool, false, ◌&&◌, ◌||◌, nat_lt, bytes_eq, if◌then◌else◌, Option, Some, None, codes}
-use Rattle.rtio_types.specs.Board.{channel_of_name}
+use Rattle.rtio_types.specs.Board.{channel_of_name, is_output}
 use Rattle.kern_syntax.specs.declared.expression.UnaryOperator.TheVariants.{Negate}
 use Rattle.kern_syntax.specs.declared.program.DeclaredType.{DeclaredType}
 use Rattle.kern_syntax.specs.Tree.{Bytes, Expression, integer, unary, call, method, no_more, value_then, Statement, evaluate, Block, done, line_then, ParameterTree, FunctionTree, ProgramTree}
@@ -11,9 +11,9 @@ is_amount (integer n) = nat_lt n (10 ^ 18)
 is_amount (unary Negate (integer n)) = nat_lt n (10 ^ 18)
 is_amount _ = false
 
--- one of the channels 0 to 23, which are the outputs and the raw outputs
+-- an output of the board, raw or not
 abbrev pub is_output_channel : Option ℕ → Bool
-is_output_channel (Some channel) = nat_lt channel 24
+is_output_channel (Some channel) = is_output channel
 is_output_channel None = false
 
 -- one of the four calls

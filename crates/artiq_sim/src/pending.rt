@@ -9,8 +9,7 @@ ghost use Rattle.artiq_sim.specs.Entries.{asks_output, output_in};
 
 use rtio_core::{Act, Core, Entry};
 use rtio_log::{LogKind, LogLine};
-use rtio_types::{Event, Reply, Request};
-use sed_lanes::cycle_of;
+use rtio_types::{Event, Reply, Request, cycle_of};
 use std::alloc::{AllocError, Global};
 
 /// The accepted events whose cycle is above the counter, in the order of submission. The core was asked for outputs

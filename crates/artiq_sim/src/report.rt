@@ -8,7 +8,7 @@ ghost use Rattle.artiq_sim.specs.Report.{event_fields, event_line, log_line, lan
 use crate::pending::is_kind;
 use rtio_core::Core;
 use rtio_log::{LogKind, LogLine};
-use rtio_types::{Event, Exc, Outcome};
+use rtio_types::{Event, Exc, Outcome, reading};
 use std::alloc::{AllocError, Global};
 
 // The units that a run has.
@@ -142,7 +142,7 @@ fn write_counter(text: &mut String, counter: u64) -> Result<(), AllocError>
     requires { counter ≤ 134217728 }
     ensures { OnOk result (string_bytes text.new ≡ string_bytes text.old ++ number_line (codes "counter") (pos (reading counter))) }
 {
-    let reads = 8 * counter;
+    let reads = reading(counter);
     writeln!(text, "counter {reads}")
 }
 

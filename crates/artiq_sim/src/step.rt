@@ -1,5 +1,6 @@
 // The steps of a straight kernel.
-ghost use Rattle.std.specs.Prelude.{◌≡◌, ◌<◌, ◌^◌};
+ghost use Rattle.std.specs.Prelude.{◌≡◌, ◌<◌, ◌^◌, IsTrue};
+ghost use Rattle.rtio_types.specs.Board.{is_output};
 
 use rtio_types::Event;
 
@@ -12,11 +13,11 @@ pub struct Literal {
     ghost small: { magnitude < 10 ^ 18 },
 }
 
-/// One of the outputs `ttl0` to `ttl15` and the raw outputs `raw0` to `raw7`, which are the channels 0 to 23.
+/// One of the outputs `ttl0` to `ttl15` and the raw outputs `raw0` to `raw7`.
 #[derive(Clone, Copy, Debug)]
 pub struct OutputChannel {
     pub number: u8,
-    ghost on_board: { number < 24 },
+    ghost on_board: { IsTrue (is_output number) },
 }
 
 /// A statement of a straight kernel.

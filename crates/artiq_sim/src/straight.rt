@@ -9,7 +9,7 @@ ghost use Rattle.artiq_sim.specs.Forms.{IsFormOf, IsFormOfBody};
 
 use crate::step::{Literal, OutputChannel, Step};
 use kern_syntax::{Argument, Block, Expr, Function, Program, StmtKind, UnaryOperator};
-use rtio_types::channel_named;
+use rtio_types::{channel_named, is_output};
 use std::alloc::{AllocError, Global};
 
 /// What a program is to `sim`.
@@ -195,7 +195,7 @@ fn output_channel(name: &[u8]) -> Option<OutputChannel>
         (λ channel. (is_output_channel (channel_of_name name.now) ≡ true) × (name.now ≡ name_of_channel channel.number)) }
 {
     match channel_named(name) {
-        Some(number) if number < 24 => Some(OutputChannel { number }),
+        Some(number) if is_output(number) => Some(OutputChannel { number }),
         _ => None,
     }
 }
