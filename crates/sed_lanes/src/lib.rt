@@ -13,4 +13,3 @@ pub use laws::{
     a_later_event_is_in_sequence, a_waiting_event_is_decided_in_time, cycles_rise_in_each_lane,
     decided_stays_decided, no_lane_holds_too_many, the_lanes_hold_what_was_accepted,
 };
-pub use rtio_types::cycle_of;
