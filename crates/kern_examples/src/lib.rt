@@ -11,3 +11,5 @@ mod texts;
 mod tokens;
 #[cfg(test)]
 mod types;
+#[cfg(test)]
+mod value_types;

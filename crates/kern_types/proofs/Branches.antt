@@ -7,15 +7,15 @@ use Rattle.kern_syntax.specs.declared.statement.StmtKind.TheFolds.{the_lemmas}
 use Rattle.kern_syntax.specs.Tree.{Expression, Otherwise, no_else, else_do, elif_then, if_then}
 use Rattle.kern_syntax.specs.Tree
 use Rattle.kern_syntax.specs.TreeOf.{block_of, elif_of, branches_of, else_of}
-use Rattle.kern_types.specs.declared.fault.TypeEnd.{TypeEnd}
-use Rattle.kern_types.specs.declared.fault.TypeEnd.TheVariants as E
-use Rattle.kern_types.specs.declared.place.Place.{Place}
-use Rattle.kern_types.specs.Answers.{Leaves, IsEndOf}
-use Rattle.kern_types.specs.Before.{Functions}
-use Rattle.kern_types.specs.Expressions.{condition_verdict}
+use Rattle.kern_expression_types.specs.declared.fault.TypeEnd.{TypeEnd}
+use Rattle.kern_expression_types.specs.declared.fault.TypeEnd.TheVariants as E
+use Rattle.kern_expression_types.specs.declared.place.Place.{Place}
+use Rattle.kern_expression_types.specs.Answers.{Leaves, IsEndOf}
+use Rattle.kern_expression_types.specs.Before.{Functions}
+use Rattle.kern_expression_types.specs.Expressions.{condition_verdict}
 use Rattle.kern_types.specs.Statements.{at_line, block_verdict, branches_verdict, statement_verdict}
-use Rattle.kern_types.specs.Types.{Names}
-use Rattle.kern_types.specs.Verdicts.{Verdict, well, fault, ◌>>=◌, ◌>>◌}
+use Rattle.kern_calls.specs.Types.{Names}
+use Rattle.kern_expression_types.specs.Verdicts.{Verdict, well, fault, ◌>>=◌, ◌>>◌}
 
 -- what follows what follows
 pub bind-assoc : {A B C : Type 0} (v : Verdict A) (f : A → Verdict B) (g : B → Verdict C) → ((v >>= f) >>= g) ≡ (v >>= (λ a. f a >>= g))

@@ -6,19 +6,19 @@ use Rattle.std.proofs.lemmas.Option.{slice_get_within, slice_get_read, get_or_fr
 use Rattle.kern_syntax.specs.declared.program.Function.{Function}
 use Rattle.kern_syntax.specs.Tree.{Bytes, FunctionTree, ProgramTree}
 use Rattle.kern_syntax.specs.TreeOf.{function_of, tree_of}
-use Rattle.kern_types.specs.declared.fault.TypeEnd.{TypeEnd}
-use Rattle.kern_types.specs.declared.fault.TypeEnd.TheVariants as E
-use Rattle.kern_types.specs.declared.fault.TypeKind.TheVariants as K
-use Rattle.kern_types.specs.Answers.{IsEndOf, Leaves, Passes}
-use Rattle.kern_types.specs.Before.{Functions, is_reserved}
-use Rattle.kern_types.specs.Calls.{look_up}
-use Rattle.kern_types.specs.Numbered.{numbered}
+use Rattle.kern_expression_types.specs.declared.fault.TypeEnd.{TypeEnd}
+use Rattle.kern_expression_types.specs.declared.fault.TypeEnd.TheVariants as E
+use Rattle.kern_expression_types.specs.declared.fault.TypeKind.TheVariants as K
+use Rattle.kern_expression_types.specs.Answers.{IsEndOf, Leaves, Passes}
+use Rattle.kern_expression_types.specs.Before.{Functions, is_reserved}
+use Rattle.kern_calls.specs.Calls.{look_up}
+use Rattle.kern_expression_types.specs.Numbered.{numbered}
 use Rattle.kern_types.specs.Plain.{with_plain}
 use Rattle.kern_types.specs.Programs.{body_functions, body_verdict, function_verdict, functions_verdict, most_functions}
-use Rattle.kern_types.specs.Types.{function_named}
-use Rattle.kern_types.specs.Verdicts.{Verdict, well, fault, is_well, refuse_if, ◌>>=◌, ◌>>◌}
+use Rattle.kern_calls.specs.Types.{function_named}
+use Rattle.kern_expression_types.specs.Verdicts.{Verdict, well, fault, is_well, refuse_if, ◌>>=◌, ◌>>◌}
 use Rattle.kern_types.proofs.Branches.{end-then}
-use Rattle.kern_types.proofs.Numbers.{is_some-numbered}
+use Rattle.kern_expression_types.proofs.Numbers.{is_some-numbered}
 
 -- one function more
 take-next : (fs : List Function) (n : ℕ) (f : Function) → slice_get fs n ≡ Some f → take (n + 1) fs ≡ take n fs ++ f ∷ []

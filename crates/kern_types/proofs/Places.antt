@@ -6,13 +6,13 @@ use Rattle.std.proofs.lemmas.List.Quantifiers.{position-Some}
 use Rattle.kern_syntax.specs.declared.program.Function.{Function}
 use Rattle.kern_syntax.specs.Tree.{Bytes, FunctionTree, ProgramTree}
 use Rattle.kern_syntax.specs.TreeOf.{function_of, tree_of}
-use Rattle.kern_types.specs.declared.fault.TypeKind.{TypeKind}
+use Rattle.kern_expression_types.specs.declared.fault.TypeKind.{TypeKind}
 use Rattle.kern_types.specs.Plain.{with_plain}
-use Rattle.kern_types.specs.declared.fault.TypeKind.TheVariants as K
-use Rattle.kern_types.specs.Before.{is_reserved}
-use Rattle.kern_types.specs.Types.{function_named}
+use Rattle.kern_expression_types.specs.declared.fault.TypeKind.TheVariants as K
+use Rattle.kern_expression_types.specs.Before.{is_reserved}
+use Rattle.kern_calls.specs.Types.{function_named}
 use Rattle.kern_types.specs.Programs.{IsTyped, body_functions, body_verdict, function_verdict, functions_verdict, most_functions, place_of_function}
-use Rattle.kern_types.specs.Verdicts.{Verdict, well, fault, ◌>>=◌, ◌>>◌, refuse_if, is_well}
+use Rattle.kern_expression_types.specs.Verdicts.{Verdict, well, fault, ◌>>=◌, ◌>>◌, refuse_if, is_well}
 
 -- the items at the front that pass, of the images of others
 prefix_len-map : {A B : Type 0} (test : B → Bool) (f : A → B) (xs : List A) → prefix_len test (map f xs) ≡ prefix_len (λ x. test (f x)) xs

@@ -5,7 +5,7 @@ use Rattle.kern_syntax.specs.declared.statement.Block.{Block}
 use Rattle.kern_syntax.specs.Tree.{Bytes, Expression, Otherwise, no_else, else_do, elif_then, if_then}
 use Rattle.kern_syntax.specs.Tree
 use Rattle.kern_syntax.specs.TreeOf.{block_of, branches_of, elif_of, else_of}
-use Rattle.kern_types.specs.Before.{is_in}
+use Rattle.kern_expression_types.specs.Before.{is_in}
 use Rattle.kern_types.specs.Plain.{is_plain_otherwise, is_plain_expression, is_plain_block, is_plain_statement}
 use Rattle.kern_types.proofs.Branches.{with_end, IsOpen, elif-end, elif-open, branches_of-end, open-branches}
 

@@ -11,8 +11,8 @@ use Rattle.kern_syntax.specs.declared.program.DeclaredType.{DeclaredType}
 use Rattle.kern_syntax.specs.declared.program.DeclaredType.TheVariants as D
 use Rattle.kern_syntax.specs.Tree.{Bytes, Expression, integer, true_literal, false_literal, variable, element, group, unary, binary, compare, negation, conjunction, disjunction, call, method, Arguments, no_more, value_then, text_then, Statement, pass, evaluate, assign, assign_element, augment, augment_element, assign_repeated, assign_list, if_then, while_do, for_range, parallel, sequential, record_as, try_do, Block, done, line_then, Otherwise, no_else, else_do, elif_then, Handlers, no_handler, except_then, ParameterTree, FunctionTree, ProgramTree}
 use Rattle.kern_syntax.specs.Tree as T
-use Rattle.kern_types.specs.declared.fault.TypeKind.TheVariants as K
-use Rattle.kern_types.specs.Verdicts.{Verdict, well, fault}
+use Rattle.kern_expression_types.specs.declared.fault.TypeKind.TheVariants as K
+use Rattle.kern_expression_types.specs.Verdicts.{Verdict, well, fault}
 use Rattle.kern_types.specs.Programs.{program_verdict}
 
 -- statements on the lines from a number on

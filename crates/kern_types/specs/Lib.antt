@@ -1,14 +1,4 @@
-pub mod Answers
-pub mod Before
-pub mod Calls
-pub mod CallsOf
 pub mod Checked
-pub mod Expressions
-pub mod Fits
-pub mod KnownOf
-pub mod Numbered
 pub mod Plain
 pub mod Programs
 pub mod Statements
-pub mod Types
-pub mod Verdicts

@@ -5,8 +5,10 @@ use Rattle.kern_syntax.specs.declared.statement.Target.{Target}
 use Rattle.kern_syntax.specs.declared.statement.Target.TheVariants as L
 use Rattle.kern_syntax.specs.TreeOf.{expression_of}
 use Rattle.kern_syntax.specs.Tree.{Bytes, Expression, element, group, unary, binary, compare, negation, conjunction, disjunction, call, method, Arguments, no_more, value_then, text_then, Statement, return, evaluate, assign, assign_element, augment, augment_element, assign_repeated, assign_list, if_then, while_do, for_range, parallel, sequential, record_as, try_do, Block, done, line_then, Otherwise, no_else, else_do, elif_then, Handlers, no_handler, except_then, FunctionTree}
-use Rattle.kern_types.specs.Calls.{Builtin, builtin_named, builtin_is_live, Operation, is_live, method_named}
-use Rattle.kern_types.specs.Before.{is_in, with_member}
+use Rattle.kern_calls.specs.declared.calls.Builtin.{Builtin}
+use Rattle.kern_calls.specs.declared.calls.Operation.{Operation}
+use Rattle.kern_calls.specs.Calls.{builtin_named, builtin_is_live, is_live, method_named}
+use Rattle.kern_expression_types.specs.Before.{is_in, with_member}
 
 -- a call that may stand in a plain function: of a plain function, or not live
 abbrev pub is_plain_call : List Bytes → Bytes → Option Builtin → Bool

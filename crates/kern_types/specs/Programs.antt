@@ -1,12 +1,12 @@
 -- The verdict on a program: its functions in the order of the text, and then that there is a `main`.
 use Rattle.std.specs.Prelude.{ℕ, List, [], ◌∷◌, ◌++◌, length, Bool, true, false, not, ◌||◌, nat_le, ◌==◌, bytes_eq, position, IsTrue, Option, Some, None, is_some, codes}
 use Rattle.kern_syntax.specs.Tree.{Bytes, ParameterTree, FunctionTree, ProgramTree}
-use Rattle.kern_types.specs.declared.place.Place.{Place}
-use Rattle.kern_types.specs.declared.fault.TypeKind.TheVariants as K
-use Rattle.kern_types.specs.Calls.{look_up}
-use Rattle.kern_types.specs.Types.{Names, declared_type, function_named}
-use Rattle.kern_types.specs.Verdicts.{Verdict, well, ◌>>=◌, ◌>>◌, refuse_if, is_well}
-use Rattle.kern_types.specs.Before.{Functions, is_reserved, is_taken}
+use Rattle.kern_expression_types.specs.declared.place.Place.{Place}
+use Rattle.kern_expression_types.specs.declared.fault.TypeKind.TheVariants as K
+use Rattle.kern_calls.specs.Calls.{look_up}
+use Rattle.kern_calls.specs.Types.{Names, declared_type, function_named}
+use Rattle.kern_expression_types.specs.Verdicts.{Verdict, well, ◌>>=◌, ◌>>◌, refuse_if, is_well}
+use Rattle.kern_expression_types.specs.Before.{Functions, is_reserved, is_taken}
 use Rattle.kern_types.specs.Plain.{with_plain}
 use Rattle.kern_types.specs.Statements.{block_verdict}
 

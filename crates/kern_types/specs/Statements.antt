@@ -3,18 +3,18 @@ use Rattle.std.specs.Prelude.{ℕ, List, [], ◌∷◌, ◌++◌, length, true, 
 use Rattle.kern_syntax.specs.declared.program.DeclaredType.{DeclaredType}
 use Rattle.kern_syntax.specs.Tree.{Bytes, Expression, Statement, pass, evaluate, assign, assign_element, augment, augment_element, assign_repeated, assign_list, if_then, while_do, for_range, parallel, sequential, record_as, try_do, Block, done, line_then, Otherwise, no_else, else_do, elif_then, Handlers, no_handler, except_then}
 use Rattle.kern_syntax.specs.Tree as T
-use Rattle.kern_types.specs.declared.types.ValueType.{ValueType}
-use Rattle.kern_types.specs.declared.types.ValueType.TheVariants as V
-use Rattle.kern_types.specs.declared.place.Given.{Given}
-use Rattle.kern_types.specs.declared.place.Place.{Place}
-use Rattle.kern_types.specs.declared.place.Wanted.TheVariants as W
-use Rattle.kern_types.specs.declared.fault.TypeKind.TheVariants as K
-use Rattle.kern_types.specs.Calls.{look_up}
-use Rattle.kern_types.specs.Types.{Names, wider_type}
-use Rattle.kern_types.specs.Verdicts.{Verdict, well, fault, ◌>>=◌, ◌>>◌, refuse_if, refuse_some, found_or}
-use Rattle.kern_types.specs.Fits.{declared_wanted, kept_misfit, fit, fit_each, as_integer, as_statement, scalar_of}
-use Rattle.kern_types.specs.Before.{Functions, is_in, is_taken, exceptions}
-use Rattle.kern_types.specs.Expressions.{expression_verdict, variable_verdict, element_verdict, fitting_verdict, condition_verdict, elements_verdict}
+use Rattle.kern_calls.specs.declared.types.ValueType.{ValueType}
+use Rattle.kern_calls.specs.declared.types.ValueType.TheVariants as V
+use Rattle.kern_expression_types.specs.declared.place.Given.{Given}
+use Rattle.kern_expression_types.specs.declared.place.Place.{Place}
+use Rattle.kern_calls.specs.declared.wanted.Wanted.TheVariants as W
+use Rattle.kern_expression_types.specs.declared.fault.TypeKind.TheVariants as K
+use Rattle.kern_calls.specs.Calls.{look_up}
+use Rattle.kern_calls.specs.Types.{Names, wider_type}
+use Rattle.kern_expression_types.specs.Verdicts.{Verdict, well, fault, ◌>>=◌, ◌>>◌, refuse_if, refuse_some, found_or}
+use Rattle.kern_expression_types.specs.Fits.{declared_wanted, kept_misfit, fit, fit_each, as_integer, as_statement, scalar_of}
+use Rattle.kern_expression_types.specs.Before.{Functions, is_in, is_taken, exceptions}
+use Rattle.kern_expression_types.specs.Expressions.{expression_verdict, variable_verdict, element_verdict, fitting_verdict, condition_verdict, elements_verdict}
 
 -- the most names of a function, its parameters among them
 abbrev pub most_names : ℕ

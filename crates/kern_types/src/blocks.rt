@@ -2,17 +2,12 @@
 
 ghost use Rattle.std.specs.Prelude.{None};
 ghost use Rattle.kern_syntax.specs.TreeOf.{block_of, statement_of, branches_of, handlers_of};
-ghost use Rattle.kern_types.specs.Answers.{Leaves};
-ghost use Rattle.kern_types.specs.KnownOf.{functions_of};
+ghost use Rattle.kern_expression_types.specs.Answers.{Leaves};
+ghost use Rattle.kern_expression_types.specs.KnownOf.{functions_of};
 ghost use Rattle.kern_types.specs.Statements.{block_verdict, statement_verdict, branches_verdict, handlers_verdict};
 
-use crate::fault::{TypeEnd, TypeKind};
-use crate::fits::refuse_if;
-use crate::known::Known;
-use crate::names::Locals;
-use crate::place::Place;
-use crate::reserved::is_exception;
 use crate::statements::{check_condition, check_loop_from_to, check_loop_to, check_simple};
+use kern_expression_types::{Known, Locals, Place, TypeEnd, TypeKind, is_exception, refuse_if};
 use kern_syntax::{Block, Elif, Handler, StmtKind};
 use std::alloc::Global;
 

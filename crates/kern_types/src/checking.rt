@@ -4,11 +4,11 @@ ghost use Rattle.std.specs.Prelude.{◌≡◌, IfOk, IfErr, OnOk, position, byte
 ghost use Rattle.kern_syntax.specs.Grammatical.{IsGrammatical};
 ghost use Rattle.kern_syntax.specs.Spellable.{IsSpellableProgram};
 ghost use Rattle.kern_syntax.specs.TreeOf.{tree_of};
-ghost use Rattle.kern_types.specs.Answers.{IsEndOf};
+ghost use Rattle.kern_expression_types.specs.Answers.{IsEndOf};
 ghost use Rattle.kern_types.specs.Programs.{IsTyped, program_verdict, place_of_function};
 
-use crate::fault::TypeEnd;
 use crate::program::check_functions;
+use kern_expression_types::TypeEnd;
 use kern_syntax::{Function, Program};
 use std::alloc::Global;
 use std::marker::Model;

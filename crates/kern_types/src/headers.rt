@@ -2,16 +2,13 @@
 
 ghost use Rattle.std.specs.Prelude.{◌≡◌, map};
 ghost use Rattle.kern_syntax.specs.TreeOf.{parameter_of, function_of};
-ghost use Rattle.kern_types.specs.Answers.{Leaves, Passes};
-ghost use Rattle.kern_types.specs.KnownOf.{functions_of};
+ghost use Rattle.kern_expression_types.specs.Answers.{Leaves, Passes};
+ghost use Rattle.kern_expression_types.specs.KnownOf.{functions_of};
 ghost use Rattle.kern_types.specs.Programs.{body_place, body_verdict, parameter_verdict, parameters_verdict};
 
 use crate::blocks::check_block;
-use crate::fault::{TypeEnd, TypeKind};
-use crate::fits::{declared_type, refuse_if};
-use crate::known::Known;
-use crate::names::Locals;
-use crate::place::Place;
+use kern_calls::declared_type;
+use kern_expression_types::{Known, Locals, Place, TypeEnd, TypeKind, refuse_if};
 use kern_syntax::{Function, Parameter};
 use std::alloc::Global;
 

@@ -3,12 +3,12 @@
 ghost use Rattle.std.specs.Prelude.{◌≡◌, ◌++◌, [], ◌∷◌, None};
 ghost use Rattle.kern_syntax.specs.Tree.{no_more};
 ghost use Rattle.kern_syntax.specs.TreeOf.{expression_of, argument_of, arguments_of, block_of, statement_of, branches_of, handlers_of, function_of};
-ghost use Rattle.kern_types.specs.Before.{is_in};
-ghost use Rattle.kern_types.specs.Calls.{builtin_named, method_named};
+ghost use Rattle.kern_expression_types.specs.Before.{is_in};
+ghost use Rattle.kern_calls.specs.Calls.{builtin_named, method_named};
 ghost use Rattle.kern_types.specs.Plain.{is_plain_call, is_plain_method, is_plain_expression, are_plain_arguments, is_plain_block, is_plain_statement, is_plain_otherwise, are_plain_handlers, is_plain_function};
 
-use crate::calls::{builtin_named, method_of, object_named};
-use crate::names::NameList;
+use kern_calls::{builtin_named, method_of, object_named};
+use kern_expression_types::NameList;
 use kern_syntax::{Argument, Block, Elif, Expr, Function, Handler, StmtKind, Target};
 
 /// The plain functions after one more function, if it is plain; its own calls don't count.

@@ -2,21 +2,19 @@
 
 ghost use Rattle.std.specs.Prelude.{◌≡◌, ◌+◌, List, ℕ, Some, codes, is_some, length, slice_get, take, IfOk, IfErr, OnOk};
 ghost use Rattle.kern_syntax.specs.TreeOf.{function_of, tree_of};
-ghost use Rattle.kern_types.specs.Answers.{Leaves, Passes, IsMemory};
-ghost use Rattle.kern_types.specs.Before.{is_in};
-ghost use Rattle.kern_types.specs.Numbered.{numbered};
+ghost use Rattle.kern_expression_types.specs.Answers.{Finds, Leaves, Passes, IsMemory};
+ghost use Rattle.kern_expression_types.specs.Before.{is_in};
+ghost use Rattle.kern_expression_types.specs.Numbered.{numbered};
 ghost use Rattle.kern_types.specs.Plain.{with_plain};
 ghost use Rattle.kern_types.specs.Programs.{function_verdict, main_verdict, program_verdict};
-ghost use Rattle.kern_types.specs.Types.{function_named};
-ghost use Rattle.kern_types.specs.Verdicts.{well};
+ghost use Rattle.kern_calls.specs.Types.{function_named};
+ghost use Rattle.kern_expression_types.specs.Verdicts.{well};
 
-use crate::fault::{TypeEnd, TypeKind};
-use crate::fits::refuse_if;
 use crate::headers::check_body;
-use crate::known::Known;
-use crate::names::{FunctionNumbers, NameList};
 use crate::plain::is_plain_function;
-use crate::reserved::is_reserved;
+use kern_expression_types::{
+    FunctionNumbers, Known, NameList, TypeEnd, TypeFault, TypeKind, is_reserved, refuse_if,
+};
 use kern_syntax::Function;
 use std::alloc::Global;
 
@@ -34,7 +32,7 @@ pub fn check_functions(alloc: Global, functions: &[Function]) -> Result<(), Type
         check_function(alloc, functions, &all, &mut callable, &plain, function)?;
         note_plain(alloc, &mut plain, function)?;
     }
-    check_main(functions)
+    Ok(check_main(functions)?)
 }
 
 // The names of all functions.
@@ -99,8 +97,8 @@ fn note_plain(alloc: Global, plain: &mut NameList, function: &Function) -> Resul
 }
 
 // Checks that there is a function `main` without parameters.
-fn check_main(functions: &[Function]) -> Result<(), TypeEnd>
-    ensures { Leaves result tt (main_verdict (tree_of functions.now)) }
+fn check_main(functions: &[Function]) -> Result<(), TypeFault>
+    ensures { Finds result (main_verdict (tree_of functions.now)) }
 {
     refuse_if(!has_main(functions), 1, TypeKind::NoMain)
 }

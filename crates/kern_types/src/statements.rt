@@ -2,21 +2,17 @@
 
 ghost use Rattle.std.specs.Prelude.{Some, None, map};
 ghost use Rattle.kern_syntax.specs.TreeOf.{expression_of, statement_of};
-ghost use Rattle.kern_types.specs.Answers.{Gives, GivesItems, Leaves};
-ghost use Rattle.kern_types.specs.Expressions.{condition_verdict, elements_verdict, fitting_verdict};
-ghost use Rattle.kern_types.specs.KnownOf.{functions_of};
+ghost use Rattle.kern_expression_types.specs.Answers.{Finds, Gives, GivesItems, Leaves};
+ghost use Rattle.kern_expression_types.specs.Expressions.{condition_verdict, elements_verdict, fitting_verdict};
+ghost use Rattle.kern_expression_types.specs.KnownOf.{functions_of};
 ghost use Rattle.kern_types.specs.Statements.{alone_verdict, array_verdict, assigned_verdict, augmented_verdict, bounds_verdict, element_assigned_verdict, element_augmented_verdict, kept_verdict, listed_verdict, loop_verdict, name_augmented_verdict, range_verdict, repeated_verdict, return_verdict, simple_verdict, turn_verdict, value_assigned_verdict, value_verdict};
 
-use crate::expressions::{check_element, check_expression, check_variable};
-use crate::fault::{TypeEnd, TypeKind};
-use crate::fits::{
-    as_condition, as_integer, as_statement, declared_wanted, fit, fit_each, kept_misfit, refuse_if,
-    refuse_some, scalar_of,
+use kern_calls::{ValueType, Wanted, wider};
+use kern_expression_types::{
+    Given, Known, Locals, Place, TypeEnd, TypeFault, TypeKind, as_condition, as_integer,
+    as_statement, check_element, check_expression, check_variable, declared_wanted, fit, fit_each,
+    kept_misfit, refuse_if, refuse_some, scalar_of,
 };
-use crate::known::Known;
-use crate::names::Locals;
-use crate::place::{Given, Place, Wanted};
-use crate::types::{ValueType, wider};
 use kern_syntax::{Expr, StmtKind, Target};
 use std::alloc::Global;
 
@@ -37,7 +33,7 @@ pub fn check_simple(
     ensures { Leaves result names.new (simple_verdict (functions_of known.now) place names.old (statement_of statement.now)) }
 {
     match statement {
-        StmtKind::Break | StmtKind::Continue => check_turn(place),
+        StmtKind::Break | StmtKind::Continue => Ok(check_turn(place)?),
         StmtKind::Return(value) => check_return(alloc, known, place, names, value),
         StmtKind::Evaluate(e) => check_alone(alloc, known, place, names, e),
         StmtKind::Assign(Target::Variable(x), e) => {
@@ -62,8 +58,8 @@ pub fn check_simple(
     }
 }
 
-fn check_turn(place: Place) -> Result<(), TypeEnd>
-    ensures { Leaves result tt (turn_verdict place) }
+fn check_turn(place: Place) -> Result<(), TypeFault>
+    ensures { Finds result (turn_verdict place) }
 {
     refuse_if(!place.in_loop, place.line, TypeKind::BlockExit)
 }
@@ -80,7 +76,7 @@ fn check_return(
     ensures { Leaves result tt (return_verdict (functions_of known.now) place names.now (option_map expression_of value.now)) }
 {
     check_value(alloc, known, place, names, value)?;
-    refuse_if(!place.may_return, place.line, TypeKind::BlockExit)
+    Ok(refuse_if(!place.may_return, place.line, TypeKind::BlockExit)?)
 }
 
 // The value of a `return`, against the function's result.
@@ -106,7 +102,7 @@ fn check_value(
             let given = check_expression(alloc, known, place, names, e)?;
             match place.result {
                 None => Err(arity),
-                Some(declared) => fit(place.line, declared_wanted(declared), given),
+                Some(declared) => Ok(fit(place.line, declared_wanted(declared), given)?),
             }
         }
     }
@@ -122,7 +118,7 @@ fn check_alone(
     ensures { Leaves result tt (alone_verdict (functions_of known.now) place names.now (expression_of e.now)) }
 {
     let given = check_expression(alloc, known, place, names, e)?;
-    as_statement(place.line, given)
+    Ok(as_statement(place.line, given)?)
 }
 
 /// Checks a condition.
@@ -136,7 +132,7 @@ pub fn check_condition(
     ensures { Leaves result tt (condition_verdict (functions_of known.now) place names.now (expression_of e.now)) }
 {
     let given = check_expression(alloc, known, place, names, e)?;
-    as_condition(place.line, given)
+    Ok(as_condition(place.line, given)?)
 }
 
 // An expression that fits an int64.
@@ -150,10 +146,10 @@ fn check_fitting(
     ensures { Leaves result tt (fitting_verdict (functions_of known.now) place names.now W.Int64 (expression_of e.now)) }
 {
     let given = check_expression(alloc, known, place, names, e)?;
-    fit(place.line, Wanted::Int64, given)
+    Ok(fit(place.line, Wanted::Int64, given)?)
 }
 
-ghost use Rattle.kern_types.specs.declared.place.Wanted.TheVariants as W;
+ghost use Rattle.kern_calls.specs.declared.wanted.Wanted.TheVariants as W;
 
 fn check_assigned(
     alloc: Global,
@@ -184,7 +180,7 @@ fn assign(
     keep(alloc, place, names, name, value)
 }
 
-ghost use Rattle.kern_types.specs.Calls.{look_up};
+ghost use Rattle.kern_calls.specs.Calls.{look_up};
 
 // A new name takes the type of its first value, and a later value has to fit it.
 fn keep(
@@ -209,7 +205,7 @@ fn keep(
             }
         }
         Some(held) => match value {
-            Some(kind) => refuse_some(kept_misfit(held, kind), place.line),
+            Some(kind) => Ok(refuse_some(kept_misfit(held, kind), place.line)?),
             None => Err(mismatch),
         },
     }
@@ -229,7 +225,7 @@ fn check_element_assigned(
     let given = check_expression(alloc, known, place, names, value)?;
     let index = check_expression(alloc, known, place, names, index)?;
     check_element(place.line, names, array, index)?;
-    fit(place.line, Wanted::Int64, given)
+    Ok(fit(place.line, Wanted::Int64, given)?)
 }
 
 fn check_augmented(
@@ -244,12 +240,12 @@ fn check_augmented(
 {
     let held = check_variable(place.line, names, name)?;
     let added = check_expression(alloc, known, place, names, value)?;
-    augment(place.line, held, added)
+    Ok(augment(place.line, held, added)?)
 }
 
 // A number is added to what a name holds.
-fn augment(line: u32, held: Given, added: Given) -> Result<(), TypeEnd>
-    ensures { Leaves result tt (augmented_verdict line held added) }
+fn augment(line: u32, held: Given, added: Given) -> Result<(), TypeFault>
+    ensures { Finds result (augmented_verdict line held added) }
 {
     let held = as_integer(line, held)?;
     let added = as_integer(line, added)?;
@@ -384,11 +380,11 @@ fn check_range(
 {
     let from = check_expression(alloc, known, place, names, from)?;
     let to = check_expression(alloc, known, place, names, to)?;
-    check_bounds(place.line, from, to)
+    Ok(check_bounds(place.line, from, to)?)
 }
 
-fn check_bounds(line: u32, from: Given, to: Given) -> Result<ValueType, TypeEnd>
-    ensures { Gives result (bounds_verdict line from to) }
+fn check_bounds(line: u32, from: Given, to: Given) -> Result<ValueType, TypeFault>
+    ensures { Finds result (bounds_verdict line from to) }
 {
     let from = as_integer(line, from)?;
     let to = as_integer(line, to)?;

@@ -14,9 +14,13 @@ use Rattle.rtio_types.specs.declared.request.Value.TheVariants as W
 use Rattle.rtio_types.specs.Replies.{raised_by}
 use Rattle.rtio_types.specs.Integers.{is_true}
 use Rattle.kern_syntax.specs.Tree.{Bytes, Expression, integer, true_literal, false_literal, variable, element, group, unary, binary, compare, negation, conjunction, disjunction, call, method, Arguments, no_more, value_then, text_then}
-use Rattle.kern_types.specs.declared.types.ValueType.{ValueType}
-use Rattle.kern_types.specs.Calls.{Builtin, builtin_named, now_mu, at_mu, delay_mu, set_dataset, len, to_int32, to_int64, Operation, method_named, on, off, pulse, write, gate_rising, gate_falling, gate_both, timestamp, count, counter, break_realtime, reset, wait_until, playback, playback_handle, get_handle, erase}
-use Rattle.kern_types.specs.Types.{Scope, type_of, bits_of}
+use Rattle.kern_calls.specs.declared.types.ValueType.{ValueType}
+use Rattle.kern_calls.specs.declared.calls.Builtin.{Builtin}
+use Rattle.kern_calls.specs.declared.calls.Builtin.TheVariants as B
+use Rattle.kern_calls.specs.declared.calls.Operation.{Operation}
+use Rattle.kern_calls.specs.declared.calls.Operation.TheVariants as P
+use Rattle.kern_calls.specs.Calls.{builtin_named, method_named}
+use Rattle.kern_calls.specs.Types.{Scope, type_of, bits_of}
 use Rattle.kern_syntax.specs.declared.expression.BinaryOperator.{BinaryOperator}
 use Rattle.timeline_sem.specs.Actions.{State, Reason, break, continue, return, raised, budget, unanswered, Completion, normal, early, Action, go_on, give, skip, stop, take_unit_of, take_unit, next_reply_of, raise_if, ask, request, cursor_now, set_cursor, ◌>>=◌, ◌>>◌}
 use Rattle.timeline_sem.specs.Timeline.{delay, tell, inquire, append_event, submit_or_collect, output, gate, on_edge, count_edges, count_all_edges, play_events, play_reply, play, pulse_for, move_to_real_time, reset_core, no_value, perform, event_at}
@@ -190,23 +194,23 @@ module _ (further : List Reply) where
   }
 
   pub extends_perform : (op : Operation) (numbers : List ℤ) (text : Bytes) → Extends (perform op numbers text)
-  extends_perform (on c) numbers text = extends_no_value (extends_output c 0 (pos 1))
-  extends_perform (off c) numbers text = extends_no_value (extends_output c 0 (pos 0))
-  extends_perform (pulse c) numbers text = extends_no_value (extends_pulse c _)
-  extends_perform (write c) numbers text = extends_no_value (extends_output c _ _)
-  extends_perform (gate_rising c) numbers text = extends_gate c (pos 1) _
-  extends_perform (gate_falling c) numbers text = extends_gate c (pos 2) _
-  extends_perform (gate_both c) numbers text = extends_gate c (pos 3) _
-  extends_perform (timestamp c) numbers text = extends_inquire _
-  extends_perform (count c) numbers text = extends_count _
-  extends_perform counter numbers text = extends_inquire Q.Counter
-  extends_perform break_realtime numbers text = extends_no_value extends_move
-  extends_perform reset numbers text = extends_no_value extends_reset
-  extends_perform wait_until numbers text = extends_no_value (extends_tell _)
-  extends_perform playback numbers text = extends_no_value (extends_play _)
-  extends_perform playback_handle numbers text = extends_no_value (extends_play _)
-  extends_perform get_handle numbers text = extends_inquire _
-  extends_perform erase numbers text = extends_no_value (extends_tell _)
+  extends_perform (P.On c) numbers text = extends_no_value (extends_output c 0 (pos 1))
+  extends_perform (P.Off c) numbers text = extends_no_value (extends_output c 0 (pos 0))
+  extends_perform (P.Pulse c) numbers text = extends_no_value (extends_pulse c _)
+  extends_perform (P.Write c) numbers text = extends_no_value (extends_output c _ _)
+  extends_perform (P.GateRising c) numbers text = extends_gate c (pos 1) _
+  extends_perform (P.GateFalling c) numbers text = extends_gate c (pos 2) _
+  extends_perform (P.GateBoth c) numbers text = extends_gate c (pos 3) _
+  extends_perform (P.Timestamp c) numbers text = extends_inquire _
+  extends_perform (P.Count c) numbers text = extends_count _
+  extends_perform P.Counter numbers text = extends_inquire Q.Counter
+  extends_perform P.BreakRealtime numbers text = extends_no_value extends_move
+  extends_perform P.Reset numbers text = extends_no_value extends_reset
+  extends_perform P.WaitUntil numbers text = extends_no_value (extends_tell _)
+  extends_perform P.Playback numbers text = extends_no_value (extends_play _)
+  extends_perform P.PlaybackHandle numbers text = extends_no_value (extends_play _)
+  extends_perform P.GetHandle numbers text = extends_inquire _
+  extends_perform P.Erase numbers text = extends_no_value (extends_tell _)
 
   pub extends_read : (x : Bytes) → Extends (read x)
   extends_read x = record { from = λ s. refl; grows = keeps_read AskedGrow AskedGrow asked_grow x }
@@ -240,14 +244,14 @@ module _ (further : List Reply) where
   extends_dataset scope (value_then e rest) n = extends_array_or (array_in scope e) n
 
   pub extends_builtin : (scope : Scope) (f : Builtin) (args : Arguments) (numbers : List ℤ) → Extends (perform_builtin scope f args numbers)
-  extends_builtin scope now_mu args numbers = extends_cursor_now
-  extends_builtin scope at_mu args numbers = extends_no_value (extends_set_cursor _)
-  extends_builtin scope delay_mu args numbers = extends_no_value (extends_delay _)
-  extends_builtin scope set_dataset args numbers =
+  extends_builtin scope B.NowMu args numbers = extends_cursor_now
+  extends_builtin scope B.AtMu args numbers = extends_no_value (extends_set_cursor _)
+  extends_builtin scope B.DelayMu args numbers = extends_no_value (extends_delay _)
+  extends_builtin scope B.SetDataset args numbers =
       extends_bind (extends_dataset scope args _) (λ new. extends_no_value (extends_tell _))
-  extends_builtin scope len args numbers = extends_bind (extends_dataset scope args _) (λ held. extends_give _)
-  extends_builtin scope to_int32 args numbers = extends_give _
-  extends_builtin scope to_int64 args numbers = extends_give _
+  extends_builtin scope B.Len args numbers = extends_bind (extends_dataset scope args _) (λ held. extends_give _)
+  extends_builtin scope B.ToInt32 args numbers = extends_give _
+  extends_builtin scope B.ToInt64 args numbers = extends_give _
 
   extends_method : (op : Option Operation) (numbers : List ℤ) (text : Bytes) → Extends (perform_method op numbers text)
   extends_method (Some op) numbers text = extends_perform op numbers text

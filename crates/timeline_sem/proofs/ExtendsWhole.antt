@@ -10,8 +10,8 @@ use Rattle.rtio_types.specs.declared.request.Value.TheVariants as W
 use Rattle.rtio_types.specs.Integers.{is_true}
 use Rattle.kern_syntax.specs.Tree.{Bytes, Expression, variable, Statement, pass, evaluate, assign, assign_element, augment, augment_element, assign_repeated, assign_list, if_then, while_do, for_range, parallel, sequential, record_as, try_do, Block, done, line_then, Otherwise, no_else, else_do, elif_then, Handlers, no_handler, except_then, FunctionTree, ProgramTree}
 use Rattle.kern_syntax.specs.Tree as T
-use Rattle.kern_types.specs.declared.types.ValueType.TheVariants.{Int64}
-use Rattle.kern_types.specs.Types.{Scope, type_of, names_of, function_named}
+use Rattle.kern_calls.specs.declared.types.ValueType.TheVariants.{Int64}
+use Rattle.kern_calls.specs.Types.{Scope, type_of, names_of, function_named}
 use Rattle.timeline_sem.specs.Actions.{State, break, continue, return, raised, budget, unanswered, Completion, normal, early, Action, stop, take_unit}
 use Rattle.timeline_sem.specs.Expressions.{Callee, number_in_value, expression}
 use Rattle.timeline_sem.specs.Statements.{operator_of, when, either, after_turn, turn, while_turns, while_loop, for_turns, leave_recording, save_request, save_after, end_recording, recorded, after_try, attempt, values, optional_value, statement, block, parallel_block, otherwise, handler, name_of_exception}

@@ -16,9 +16,13 @@ use Rattle.rtio_types.specs.declared.request.Value.TheVariants as W
 use Rattle.rtio_types.specs.Replies.{raised_by}
 use Rattle.rtio_types.specs.Integers.{is_true}
 use Rattle.kern_syntax.specs.Tree.{Bytes, Expression, integer, true_literal, false_literal, variable, element, group, unary, binary, compare, negation, conjunction, disjunction, call, method, Arguments, no_more, value_then, text_then}
-use Rattle.kern_types.specs.declared.types.ValueType.{ValueType}
-use Rattle.kern_types.specs.Calls.{Builtin, builtin_named, now_mu, at_mu, delay_mu, set_dataset, len, to_int32, to_int64, Operation, method_named, on, off, pulse, write, gate_rising, gate_falling, gate_both, timestamp, count, counter, break_realtime, reset, wait_until, playback, playback_handle, get_handle, erase}
-use Rattle.kern_types.specs.Types.{Scope, type_of, bits_of}
+use Rattle.kern_calls.specs.declared.types.ValueType.{ValueType}
+use Rattle.kern_calls.specs.declared.calls.Builtin.{Builtin}
+use Rattle.kern_calls.specs.declared.calls.Builtin.TheVariants as B
+use Rattle.kern_calls.specs.declared.calls.Operation.{Operation}
+use Rattle.kern_calls.specs.declared.calls.Operation.TheVariants as P
+use Rattle.kern_calls.specs.Calls.{builtin_named, method_named}
+use Rattle.kern_calls.specs.Types.{Scope, type_of, bits_of}
 use Rattle.kern_syntax.specs.declared.expression.BinaryOperator.{BinaryOperator}
 use Rattle.timeline_sem.specs.Actions.{State, Reason, break, continue, return, budget, raised, unanswered, Completion, normal, early, Action, go_on, give, skip, stop, take_unit_of, take_unit, next_reply_of, raise_if, ask, request, cursor_now, set_cursor, ◌>>=◌, ◌>>◌}
 use Rattle.timeline_sem.specs.Timeline.{delay, tell, inquire, append_event, submit_or_collect, output, gate, on_edge, count_edges, count_all_edges, play_events, play_reply, play, pulse_for, move_to_real_time, reset_core, no_value, perform, event_at}
@@ -32,11 +36,16 @@ pub record IsKept (R L : State → State → Type 0) : Type 0 where
   pub then_lacking : {a b c : State} → R a b → L b c → L a c
   pub lacking_then : {a b c : State} → L a b → R b c → L a c
   pub units : (s : State) (n : ℕ) → s.units ≡ suc n → R s (record s { units = n })
-  pub reply : (s : State) (q : Request) (r : Reply) (rest : List Reply) → s.replies ≡ r ∷ rest → R s (record s { asked = s.asked ++ q ∷ []; replies = rest })
-  pub unanswered : (s : State) (q : Request) → s.replies ≡ [] → L s (record s { asked = s.asked ++ q ∷ [] })
+  pub reply : (s : State) (n : ℕ) (q : Request) (r : Reply) (rest : List Reply) → s.units ≡ suc n → s.replies ≡ r ∷ rest → R s (record s { units = n; asked = s.asked ++ q ∷ []; replies = rest })
+  pub unanswered : (s : State) (n : ℕ) (q : Request) → s.units ≡ suc n → s.replies ≡ [] → L s (record s { units = n; asked = s.asked ++ q ∷ [] })
   pub cursor : (s : State) (t : ℤ) → R s (record s { cursor = t })
   pub values : (s : State) (v : List (Bytes × Value)) → R s (record s { values = v })
   pub collected : (s : State) (c : Option (List Event)) → R s (record s { collected = c })
+
+-- they also hold of a request alone, whose unit was taken before
+pub record IsKeptByAsking (R L : State → State → Type 0) : Type 0 where
+  pub reply : (s : State) (q : Request) (r : Reply) (rest : List Reply) → s.replies ≡ r ∷ rest → R s (record s { asked = s.asked ++ q ∷ []; replies = rest })
+  pub unanswered : (s : State) (q : Request) → s.replies ≡ [] → L s (record s { asked = s.asked ++ q ∷ [] })
 
 -- what holds between a state and that of an end
 abbrev pub KeptEarly : (R L : State → State → Type 0) → Reason → State → State → Type 0
@@ -113,16 +122,26 @@ module _ (R L : State → State → Type 0) (law : IsKept R L) where
   keeps_raise_if None reply s = law.same s
   keeps_raise_if (Some x) reply s = law.same s
 
-  keeps_answer : (s : State) (q : Request) (replies : List Reply) → s.replies ≡ replies → Kept R L s (go_on (next_reply_of replies (record s { asked = s.asked ++ q ∷ [] })) (λ reply. raise_if (raised_by reply) reply))
-  keeps_answer s q [] e = law.unanswered s q e
-  keeps_answer s q (r ∷ rest) e =
-      kept_after (raise_if (raised_by r) r _) (law.reply s q r rest e) (keeps_raise_if (raised_by r) r _)
+  -- a request's answer, where its unit is taken with it
+  pub keeps_answer : (s : State) (n : ℕ) (q : Request) (replies : List Reply) → s.units ≡ suc n → s.replies ≡ replies → Kept R L s (go_on (next_reply_of replies (record s { units = n; asked = s.asked ++ q ∷ [] })) (λ reply. raise_if (raised_by reply) reply))
+  keeps_answer s n q [] u e = law.unanswered s n q u e
+  keeps_answer s n q (r ∷ rest) u e =
+      kept_after (raise_if (raised_by r) r _) (law.reply s n q r rest u e) (keeps_raise_if (raised_by r) r _)
 
-  pub keeps_ask : (q : Request) → Keeps (ask q)
-  keeps_ask q = record { from = λ s. keeps_answer s q s.replies refl }
+  keeps_request_of : (s : State) (n : ℕ) (q : Request) → s.units ≡ n → Kept R L s (go_on (take_unit_of n s) (λ a. ask q))
+  keeps_request_of s zero q u = law.same s
+  keeps_request_of s (suc n) q u = keeps_answer s n q s.replies u refl
 
   pub keeps_request : (q : Request) → Keeps (request q)
-  keeps_request q = keeps_then keeps_take_unit (keeps_ask q)
+  keeps_request q = record { from = λ s. keeps_request_of s s.units q refl }
+
+  keeps_asked : IsKeptByAsking R L → (s : State) (q : Request) (replies : List Reply) → s.replies ≡ replies → Kept R L s (go_on (next_reply_of replies (record s { asked = s.asked ++ q ∷ [] })) (λ reply. raise_if (raised_by reply) reply))
+  keeps_asked asking s q [] e = asking.unanswered s q e
+  keeps_asked asking s q (r ∷ rest) e =
+      kept_after (raise_if (raised_by r) r _) (asking.reply s q r rest e) (keeps_raise_if (raised_by r) r _)
+
+  pub keeps_ask : IsKeptByAsking R L → (q : Request) → Keeps (ask q)
+  keeps_ask asking q = record { from = λ s. keeps_asked asking s q s.replies refl }
 
   pub keeps_tell : (q : Request) → Keeps (tell q)
   keeps_tell q = keeps_bind (keeps_request q) (λ r. keeps_skip)
@@ -136,48 +155,48 @@ module _ (R L : State → State → Type 0) (law : IsKept R L) where
   pub keeps_append : (event : Event) → Keeps (append_event event)
   keeps_append event = record { from = λ s. law.collected s _ }
 
-  keeps_submit : (c : Option (List Event)) (event : Event) → Keeps (submit_or_collect c event)
+  pub keeps_submit : (c : Option (List Event)) (event : Event) → Keeps (submit_or_collect c event)
   keeps_submit None event = keeps_tell (Q.Out event)
   keeps_submit (Some events) event = keeps_then keeps_take_unit (keeps_append event)
 
   pub keeps_output : (channel address : ℕ) (d : ℤ) → Keeps (output channel address d)
   keeps_output channel address d = record { from = λ s. (keeps_submit s.collected (event_at s.cursor channel address d)).from s }
 
-  keeps_gate : (channel : ℕ) (sensitivity d : ℤ) → Keeps (gate channel sensitivity d)
+  pub keeps_gate : (channel : ℕ) (sensitivity d : ℤ) → Keeps (gate channel sensitivity d)
   keeps_gate channel sensitivity d =
       keeps_then (keeps_output channel 2 sensitivity) (keeps_then (keeps_delay d) (keeps_then (keeps_output channel 2 (pos 0)) keeps_cursor_now))
 
-  keeps_on_edge : (n : ℤ) (again : ℤ → Action ℤ) → ((m : ℤ) → Keeps (again m)) → (reply : Reply) → Keeps (on_edge n again reply)
+  pub keeps_on_edge : (n : ℤ) (again : ℤ → Action ℤ) → ((m : ℤ) → Keeps (again m)) → (reply : Reply) → Keeps (on_edge n again reply)
   keeps_on_edge n again k Y.NoEdge = keeps_give n
   keeps_on_edge n again k _ = k _
 
-  keeps_count_edges : (units : ℕ) (q : Request) (n : ℤ) → Keeps (count_edges units q n)
+  pub keeps_count_edges : (units : ℕ) (q : Request) (n : ℤ) → Keeps (count_edges units q n)
   keeps_count_edges zero q n = keeps_stop budget law.same
   keeps_count_edges (suc left) q n =
       keeps_bind (keeps_request q) (keeps_on_edge n (count_edges left q) (keeps_count_edges left q))
 
-  keeps_play_events : (events : List Event) (t : ℤ) → Keeps (play_events events t)
+  pub keeps_play_events : (events : List Event) (t : ℤ) → Keeps (play_events events t)
   keeps_play_events [] t = keeps_skip
   keeps_play_events (event ∷ rest) t = keeps_then (keeps_tell _) (keeps_play_events rest t)
 
-  keeps_play_reply : (reply : Reply) → Keeps (play_reply reply)
+  pub keeps_play_reply : (reply : Reply) → Keeps (play_reply reply)
   keeps_play_reply (Y.Trace recording) =
       keeps_bind keeps_cursor_now (λ t. keeps_then (keeps_play_events recording.events t) (keeps_delay recording.length))
   keeps_play_reply _ = keeps_skip
 
-  keeps_play : (q : Request) → Keeps (play q)
+  pub keeps_play : (q : Request) → Keeps (play q)
   keeps_play q = keeps_bind (keeps_request q) keeps_play_reply
 
   keeps_no_value : {action : Action ⊤} → Keeps action → Keeps (no_value action)
   keeps_no_value k = keeps_then k (keeps_give (pos 0))
 
-  keeps_move : Keeps move_to_real_time
+  pub keeps_move : Keeps move_to_real_time
   keeps_move = keeps_bind (keeps_inquire Q.Counter) (λ x. keeps_bind keeps_cursor_now (λ t. keeps_set_cursor _))
 
-  keeps_reset : Keeps reset_core
+  pub keeps_reset : Keeps reset_core
   keeps_reset = keeps_bind (keeps_inquire Q.Reset) (λ x. keeps_set_cursor _)
 
-  keeps_pulse : (channel : ℕ) (d : ℤ) → Keeps (pulse_for channel d)
+  pub keeps_pulse : (channel : ℕ) (d : ℤ) → Keeps (pulse_for channel d)
   keeps_pulse channel d =
       keeps_then (keeps_output channel 0 (pos 1)) (keeps_then (keeps_delay d) (keeps_output channel 0 (pos 0)))
 
@@ -185,23 +204,23 @@ module _ (R L : State → State → Type 0) (law : IsKept R L) where
   keeps_count q = record { from = λ s. (keeps_count_edges s.units q (pos 0)).from s }
 
   pub keeps_perform : (op : Operation) (numbers : List ℤ) (text : Bytes) → Keeps (perform op numbers text)
-  keeps_perform (on c) numbers text = keeps_no_value (keeps_output c 0 (pos 1))
-  keeps_perform (off c) numbers text = keeps_no_value (keeps_output c 0 (pos 0))
-  keeps_perform (pulse c) numbers text = keeps_no_value (keeps_pulse c _)
-  keeps_perform (write c) numbers text = keeps_no_value (keeps_output c _ _)
-  keeps_perform (gate_rising c) numbers text = keeps_gate c (pos 1) _
-  keeps_perform (gate_falling c) numbers text = keeps_gate c (pos 2) _
-  keeps_perform (gate_both c) numbers text = keeps_gate c (pos 3) _
-  keeps_perform (timestamp c) numbers text = keeps_inquire _
-  keeps_perform (count c) numbers text = keeps_count _
-  keeps_perform counter numbers text = keeps_inquire Q.Counter
-  keeps_perform break_realtime numbers text = keeps_no_value keeps_move
-  keeps_perform reset numbers text = keeps_no_value keeps_reset
-  keeps_perform wait_until numbers text = keeps_no_value (keeps_tell _)
-  keeps_perform playback numbers text = keeps_no_value (keeps_play _)
-  keeps_perform playback_handle numbers text = keeps_no_value (keeps_play _)
-  keeps_perform get_handle numbers text = keeps_inquire _
-  keeps_perform erase numbers text = keeps_no_value (keeps_tell _)
+  keeps_perform (P.On c) numbers text = keeps_no_value (keeps_output c 0 (pos 1))
+  keeps_perform (P.Off c) numbers text = keeps_no_value (keeps_output c 0 (pos 0))
+  keeps_perform (P.Pulse c) numbers text = keeps_no_value (keeps_pulse c _)
+  keeps_perform (P.Write c) numbers text = keeps_no_value (keeps_output c _ _)
+  keeps_perform (P.GateRising c) numbers text = keeps_gate c (pos 1) _
+  keeps_perform (P.GateFalling c) numbers text = keeps_gate c (pos 2) _
+  keeps_perform (P.GateBoth c) numbers text = keeps_gate c (pos 3) _
+  keeps_perform (P.Timestamp c) numbers text = keeps_inquire _
+  keeps_perform (P.Count c) numbers text = keeps_count _
+  keeps_perform P.Counter numbers text = keeps_inquire Q.Counter
+  keeps_perform P.BreakRealtime numbers text = keeps_no_value keeps_move
+  keeps_perform P.Reset numbers text = keeps_no_value keeps_reset
+  keeps_perform P.WaitUntil numbers text = keeps_no_value (keeps_tell _)
+  keeps_perform P.Playback numbers text = keeps_no_value (keeps_play _)
+  keeps_perform P.PlaybackHandle numbers text = keeps_no_value (keeps_play _)
+  keeps_perform P.GetHandle numbers text = keeps_inquire _
+  keeps_perform P.Erase numbers text = keeps_no_value (keeps_tell _)
 
   pub keeps_read : (x : Bytes) → Keeps (read x)
   keeps_read x = record { from = law.same }
@@ -225,24 +244,24 @@ module _ (R L : State → State → Type 0) (law : IsKept R L) where
   keeps_operate op t a b =
       keeps_bind (keeps_or_raise (exact_result op (bits_of t) a b) ZeroDivisionError) (λ exact. keeps_give _)
 
-  keeps_array_or : (a : Option Bytes) (n : ℤ) → Keeps (array_or_number a n)
+  pub keeps_array_or : (a : Option Bytes) (n : ℤ) → Keeps (array_or_number a n)
   keeps_array_or (Some x) n = keeps_read x
   keeps_array_or None n = keeps_give _
 
-  keeps_dataset : (scope : Scope) (args : Arguments) (n : ℤ) → Keeps (dataset_value scope args n)
+  pub keeps_dataset : (scope : Scope) (args : Arguments) (n : ℤ) → Keeps (dataset_value scope args n)
   keeps_dataset scope no_more n = keeps_give _
   keeps_dataset scope (text_then text rest) n = keeps_dataset scope rest n
   keeps_dataset scope (value_then e rest) n = keeps_array_or (array_in scope e) n
 
   pub keeps_builtin : (scope : Scope) (f : Builtin) (args : Arguments) (numbers : List ℤ) → Keeps (perform_builtin scope f args numbers)
-  keeps_builtin scope now_mu args numbers = keeps_cursor_now
-  keeps_builtin scope at_mu args numbers = keeps_no_value (keeps_set_cursor _)
-  keeps_builtin scope delay_mu args numbers = keeps_no_value (keeps_delay _)
-  keeps_builtin scope set_dataset args numbers =
+  keeps_builtin scope B.NowMu args numbers = keeps_cursor_now
+  keeps_builtin scope B.AtMu args numbers = keeps_no_value (keeps_set_cursor _)
+  keeps_builtin scope B.DelayMu args numbers = keeps_no_value (keeps_delay _)
+  keeps_builtin scope B.SetDataset args numbers =
       keeps_bind (keeps_dataset scope args _) (λ new. keeps_no_value (keeps_tell _))
-  keeps_builtin scope len args numbers = keeps_bind (keeps_dataset scope args _) (λ held. keeps_give _)
-  keeps_builtin scope to_int32 args numbers = keeps_give _
-  keeps_builtin scope to_int64 args numbers = keeps_give _
+  keeps_builtin scope B.Len args numbers = keeps_bind (keeps_dataset scope args _) (λ held. keeps_give _)
+  keeps_builtin scope B.ToInt32 args numbers = keeps_give _
+  keeps_builtin scope B.ToInt64 args numbers = keeps_give _
 
   keeps_method : (op : Option Operation) (numbers : List ℤ) (text : Bytes) → Keeps (perform_method op numbers text)
   keeps_method (Some op) numbers text = keeps_perform op numbers text

@@ -11,14 +11,14 @@ use Rattle.rtio_types.specs.declared.request.Value.TheVariants as W
 use Rattle.rtio_types.specs.Integers.{is_true}
 use Rattle.kern_syntax.specs.Tree.{Bytes, Expression, variable, Statement, pass, evaluate, assign, assign_element, augment, augment_element, assign_repeated, assign_list, if_then, while_do, for_range, parallel, sequential, record_as, try_do, Block, done, line_then, Otherwise, no_else, else_do, elif_then, Handlers, no_handler, except_then, FunctionTree, ProgramTree}
 use Rattle.kern_syntax.specs.Tree as T
-use Rattle.kern_types.specs.declared.types.ValueType.TheVariants.{Int64}
-use Rattle.kern_types.specs.Types.{Scope, type_of, names_of, function_named}
-use Rattle.timeline_sem.specs.Actions.{State, Reason, break, continue, return, raised, budget, unanswered, Completion, normal, early, Action, stop, take_unit}
+use Rattle.kern_calls.specs.declared.types.ValueType.TheVariants.{Int64}
+use Rattle.kern_calls.specs.Types.{Scope, type_of, names_of, function_named}
+use Rattle.timeline_sem.specs.Actions.{State, Reason, break, continue, return, raised, budget, unanswered, Completion, normal, early, Action, skip, stop, take_unit_of}
 use Rattle.timeline_sem.specs.Expressions.{Callee, number_in_value, expression}
 use Rattle.timeline_sem.specs.Statements.{operator_of, when, either, after_turn, turn, while_turns, while_loop, for_turns, leave_recording, save_request, save_after, end_recording, recorded, after_try, attempt, values, optional_value, statement, block, parallel_block, otherwise, handler, name_of_exception}
 use Rattle.timeline_sem.specs.Laws.{UnitsNeverRise, RequestsAreOnlyAdded, final}
 use Rattle.timeline_sem.specs.Programs.{meaning, meaning_of, opening, call_room, leave_function, optional_body, function_call}
-use Rattle.timeline_sem.proofs.Keeps.{IsKept, KeptEarly, Kept, Keeps, kept_after, early_then, keeps_bind, keeps_then, keeps_give, keeps_stop, keeps_skip, keeps_take_unit, keeps_ask, keeps_cursor_now, keeps_set_cursor, keeps_read, keeps_write, keeps_read_element, keeps_write_element, keeps_operate, keeps_expression}
+use Rattle.timeline_sem.proofs.Keeps.{IsKept, KeptEarly, Kept, Keeps, kept_after, early_then, keeps_bind, keeps_then, keeps_give, keeps_stop, keeps_skip, keeps_take_unit, keeps_answer, keeps_go_on, keeps_cursor_now, keeps_set_cursor, keeps_read, keeps_write, keeps_read_element, keeps_write_element, keeps_operate, keeps_expression}
 
 module _ (R L : State → State → Type 0) (law : IsKept R L) where
   keeps_when : (b : Bool) (action : Action ⊤) → Keeps R L law action → Keeps R L law (when b action)
@@ -42,7 +42,7 @@ module _ (R L : State → State → Type 0) (law : IsKept R L) where
   keeps_turn body again k l =
       keeps_then R L law (keeps_take_unit R L law) (record { from = λ s. keeps_after_turn s (body s) again (k.from s) l })
 
-  keeps_while_turns : (n : ℕ) (condition : Action ℤ) (body : Action ⊤) → Keeps R L law condition → Keeps R L law body → Keeps R L law (while_turns n condition body)
+  pub keeps_while_turns : (n : ℕ) (condition : Action ℤ) (body : Action ⊤) → Keeps R L law condition → Keeps R L law body → Keeps R L law (while_turns n condition body)
   keeps_while_turns zero condition body k l =
       keeps_bind R L law k (λ holds. keeps_when (is_true holds) (stop budget) (keeps_stop R L law budget law.same))
   keeps_while_turns (suc n) condition body k l =
@@ -52,7 +52,7 @@ module _ (R L : State → State → Type 0) (law : IsKept R L) where
   keeps_while condition body k l =
       record { from = λ s. (keeps_while_turns s.units condition body k l).from s }
 
-  keeps_for_turns : (n : ℕ) (x : Bytes) (from : ℤ) (body : Action ⊤) → Keeps R L law body → Keeps R L law (for_turns n x from body)
+  pub keeps_for_turns : (n : ℕ) (x : Bytes) (from : ℤ) (body : Action ⊤) → Keeps R L law body → Keeps R L law (for_turns n x from body)
   keeps_for_turns zero x from body k = keeps_skip R L law
   keeps_for_turns (suc n) x from body k =
       keeps_turn _ _ (keeps_then R L law (keeps_write R L law x (W.Int from)) k) (keeps_for_turns n x (from +ℤ pos 1) body k)
@@ -60,14 +60,15 @@ module _ (R L : State → State → Type 0) (law : IsKept R L) where
   left : (before s : State) → R s (leave_recording before s)
   left before s = law.then' (law.cursor s before.cursor) (law.collected _ before.collected)
 
-  pub keeps_save_after : (s : State) (q : Request) (before : State) (c : Completion ⊤) → Kept R L s c → Kept R L s (save_after q before c)
-  keeps_save_after s q before (normal a s') r =
-      kept_after R L law _ (law.then' r (left before s')) (((keeps_bind R L law (keeps_ask R L law q) (λ reply. keeps_skip R L law)).from (leave_recording before s')))
-  keeps_save_after s q before (early reason s') r = early_then R L law reason s r (left before s')
+  -- the unit of a recording that is saved is taken, what was there before is back, and the core is asked
+  pub keeps_save : (s : State) (n : ℕ) (q : Request) (before : State) → s.units ≡ n → Kept R L s (save_after q before (take_unit_of n s))
+  keeps_save s zero q before u = left before s
+  keeps_save s (suc n) q before u =
+      kept_after R L law _ (left before s) (keeps_go_on R L law (leave_recording before s) _ (λ reply. skip) (keeps_answer R L law (leave_recording before s) n q s.replies u refl) (λ reply. keeps_skip R L law))
 
   pub keeps_end_recording : (s : State) (name : Bytes) (before : State) (c : Completion ⊤) → Kept R L s c → Kept R L s (end_recording name before c)
   keeps_end_recording s name before (normal a s') r =
-      keeps_save_after s (save_request name s') before (take_unit s') (kept_after R L law (take_unit s') r ((keeps_take_unit R L law).from s'))
+      kept_after R L law _ r (keeps_save s' s'.units (save_request name s') before refl)
   keeps_end_recording s name before (early reason s') r = early_then R L law reason s r (left before s')
 
   pub keeps_recorded : (name : Bytes) (body : Action ⊤) → Keeps R L law body → Keeps R L law (recorded name body)
@@ -92,7 +93,7 @@ module _ (R L : State → State → Type 0) (law : IsKept R L) where
   keeps_if false first second k l = l
 
   module _ (scope : Scope) (callee : Callee) (keeps_callee : (f : Bytes) (numbers : List ℤ) → Keeps R L law (callee f numbers)) where
-    keeps_value : (e : Expression) → Keeps R L law (expression scope callee e)
+    pub keeps_value : (e : Expression) → Keeps R L law (expression scope callee e)
     keeps_value e = keeps_expression R L law scope callee keeps_callee e
 
     keeps_values : (es : List Expression) → Keeps R L law (values scope callee es)
@@ -105,7 +106,7 @@ module _ (R L : State → State → Type 0) (law : IsKept R L) where
     keeps_optional (Some e) = keeps_value e
 
     mutual
-      keeps_statement : (s : Statement) → Keeps R L law (statement scope callee s)
+      pub keeps_statement : (s : Statement) → Keeps R L law (statement scope callee s)
       keeps_statement pass = keeps_skip R L law
       keeps_statement T.break = keeps_stop R L law break law.same
       keeps_statement T.continue = keeps_stop R L law continue law.same
@@ -132,22 +133,22 @@ module _ (R L : State → State → Type 0) (law : IsKept R L) where
       keeps_statement (try_do body handlers) =
           keeps_attempt (block scope callee body) (handler scope callee handlers) (keeps_block body) (keeps_handler handlers)
 
-      keeps_block : (b : Block) → Keeps R L law (block scope callee b)
+      pub keeps_block : (b : Block) → Keeps R L law (block scope callee b)
       keeps_block done = keeps_skip R L law
       keeps_block (line_then line first rest) = keeps_then R L law (keeps_statement first) (keeps_block rest)
 
-      keeps_parallel : (b : Block) (start greatest : ℤ) → Keeps R L law (parallel_block scope callee b start greatest)
+      pub keeps_parallel : (b : Block) (start greatest : ℤ) → Keeps R L law (parallel_block scope callee b start greatest)
       keeps_parallel done start greatest = keeps_set_cursor R L law greatest
       keeps_parallel (line_then line first rest) start greatest =
           keeps_then R L law (keeps_set_cursor R L law start) (keeps_then R L law (keeps_statement first) (keeps_bind R L law (keeps_cursor_now R L law) (λ t. keeps_parallel rest start (int_max greatest t))))
 
-      keeps_otherwise : (rest : Otherwise) → Keeps R L law (otherwise scope callee rest)
+      pub keeps_otherwise : (rest : Otherwise) → Keeps R L law (otherwise scope callee rest)
       keeps_otherwise no_else = keeps_skip R L law
       keeps_otherwise (else_do body) = keeps_block body
       keeps_otherwise (elif_then line condition body rest) =
           keeps_bind R L law (keeps_value condition) (λ holds. keeps_either (is_true holds) (block scope callee body) (otherwise scope callee rest) (keeps_block body) (keeps_otherwise rest))
 
-      keeps_handler : (handlers : Handlers) (x : Exc) → Keeps R L law (handler scope callee handlers x)
+      pub keeps_handler : (handlers : Handlers) (x : Exc) → Keeps R L law (handler scope callee handlers x)
       keeps_handler no_handler x = keeps_stop R L law (raised x) law.same
       keeps_handler (except_then line name body rest) x =
           keeps_if (bytes_eq name (name_of_exception x)) (block scope callee body) (handler scope callee rest x) (keeps_block body) (keeps_handler rest x)
@@ -197,8 +198,8 @@ units_fall =
       then_lacking = λ r q. omega arith;
       lacking_then = λ r q. omega arith;
       units = λ s n e. omega arith;
-      reply = λ s q r rest e. omega arith;
-      unanswered = λ s q e. omega arith;
+      reply = λ s n q r rest u e. omega arith;
+      unanswered = λ s n q u e. omega arith;
       cursor = λ s t. omega arith;
       values = λ s v. omega arith;
       collected = λ s c. omega arith;
@@ -223,8 +224,8 @@ asked_grow =
       then_lacking = λ {a} {b} {c} r q. asked_grow_then a b c r q;
       lacking_then = λ {a} {b} {c} r q. asked_grow_then a b c r q;
       units = λ s n e. ([], sym (append-nil s.asked));
-      reply = λ s q r rest e. (q ∷ [], refl);
-      unanswered = λ s q e. (q ∷ [], refl);
+      reply = λ s n q r rest u e. (q ∷ [], refl);
+      unanswered = λ s n q u e. (q ∷ [], refl);
       cursor = λ s t. ([], sym (append-nil s.asked));
       values = λ s v. ([], sym (append-nil s.asked));
       collected = λ s c. ([], sym (append-nil s.asked));

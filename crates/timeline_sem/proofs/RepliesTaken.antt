@@ -21,17 +21,18 @@ pub record Lacked (s s' : State) : Type 0 where
   pub none : length s'.replies ≡ 0
   pub total : length s'.asked ≡ length s.asked + length s.replies + 1
 
-asked_one : (asked : List Request) (q : Request) → length (asked ++ q ∷ []) ≡ length asked + 1
+-- one request more
+pub asked_one : (asked : List Request) (q : Request) → length (asked ++ q ∷ []) ≡ length asked + 1
 asked_one asked q = length-append asked (q ∷ [])
 
-taken_reply : (s : State) (q : Request) (r : Reply) (rest : List Reply) → s.replies ≡ r ∷ rest → Taken s (record s { asked = s.asked ++ q ∷ []; replies = rest })
-taken_reply s q r rest e =
+taken_reply : (s : State) (n : ℕ) (q : Request) (r : Reply) (rest : List Reply) → s.replies ≡ r ∷ rest → Taken s (record s { units = n; asked = s.asked ++ q ∷ []; replies = rest })
+taken_reply s n q r rest e =
     let one = asked_one s.asked q in
     let left = ap length e in
     record { total = omega arith; added = omega arith }
 
-lacked_reply : (s : State) (q : Request) → s.replies ≡ [] → Lacked s (record s { asked = s.asked ++ q ∷ [] })
-lacked_reply s q e =
+lacked_reply : (s : State) (n : ℕ) (q : Request) → s.replies ≡ [] → Lacked s (record s { units = n; asked = s.asked ++ q ∷ [] })
+lacked_reply s n q e =
     let one = asked_one s.asked q in
     let left = ap length e in
     record { none = omega arith; total = omega arith }
@@ -51,8 +52,8 @@ taken =
       then_lacking = λ r q. record { none = omega arith; total = omega arith };
       lacking_then = λ r q. record { none = omega arith; total = omega arith };
       units = λ s n e. unchanged s _ refl refl;
-      reply = taken_reply;
-      unanswered = lacked_reply;
+      reply = λ s n q r rest u e. taken_reply s n q r rest e;
+      unanswered = λ s n q u e. lacked_reply s n q e;
       cursor = λ s t. unchanged s _ refl refl;
       values = λ s v. unchanged s _ refl refl;
       collected = λ s c. unchanged s _ refl refl;

@@ -8,10 +8,13 @@ use Rattle.rtio_types.specs.declared.request.Value.{Value}
 use Rattle.rtio_types.specs.declared.request.Value.TheVariants as W
 use Rattle.kern_syntax.specs.declared.expression.BinaryOperator.{BinaryOperator}
 use Rattle.kern_syntax.specs.Tree.{Bytes, Expression, integer, true_literal, false_literal, variable, element, group, unary, binary, compare, negation, conjunction, disjunction, call, method, Arguments, no_more, value_then, text_then}
-use Rattle.kern_types.specs.declared.types.ValueType.{ValueType}
-use Rattle.kern_types.specs.declared.types.ValueType.TheVariants as V
-use Rattle.kern_types.specs.Calls.{look_up, Builtin, builtin_named, now_mu, at_mu, delay_mu, set_dataset, len, to_int32, to_int64, Operation, method_named}
-use Rattle.kern_types.specs.Types.{Scope, type_of, width_of, bits_of}
+use Rattle.kern_calls.specs.declared.types.ValueType.{ValueType}
+use Rattle.kern_calls.specs.declared.types.ValueType.TheVariants as V
+use Rattle.kern_calls.specs.declared.calls.Builtin.{Builtin}
+use Rattle.kern_calls.specs.declared.calls.Builtin.TheVariants as B
+use Rattle.kern_calls.specs.declared.calls.Operation.{Operation}
+use Rattle.kern_calls.specs.Calls.{look_up, builtin_named, method_named}
+use Rattle.kern_calls.specs.Types.{Scope, type_of, width_of, bits_of}
 use Rattle.timeline_sem.specs.Actions.{Action, normal, raised, give, stop, cursor_now, set_cursor, ◌>>=◌}
 use Rattle.rtio_types.specs.Integers.{number_of, is_true}
 use Rattle.timeline_sem.specs.Numbers.{exact_result, compares, unary_result}
@@ -114,15 +117,15 @@ array_length scope args = do
 
 -- what a function of the language does with its numbers
 abbrev pub perform_builtin : Scope → Builtin → Arguments → List ℤ → Action ℤ
-perform_builtin scope now_mu args numbers = cursor_now
-perform_builtin scope at_mu args numbers = no_value (set_cursor (first_of_list numbers))
-perform_builtin scope delay_mu args numbers = no_value (delay (first_of_list numbers))
-perform_builtin scope set_dataset args numbers = do
+perform_builtin scope B.NowMu args numbers = cursor_now
+perform_builtin scope B.AtMu args numbers = no_value (set_cursor (first_of_list numbers))
+perform_builtin scope B.DelayMu args numbers = no_value (delay (first_of_list numbers))
+perform_builtin scope B.SetDataset args numbers = do
   new ← dataset_value scope args (first_of_list numbers)
   no_value (tell (Q.Data (text_in args) new))
-perform_builtin scope len args numbers = array_length scope args
-perform_builtin scope to_int32 args numbers = give (int_wrap w32 (first_of_list numbers))
-perform_builtin scope to_int64 args numbers = give (first_of_list numbers)
+perform_builtin scope B.Len args numbers = array_length scope args
+perform_builtin scope B.ToInt32 args numbers = give (int_wrap w32 (first_of_list numbers))
+perform_builtin scope B.ToInt64 args numbers = give (first_of_list numbers)
 
 -- what a call of a function of the program does, by its name and arguments
 abbrev pub Callee : Type 0

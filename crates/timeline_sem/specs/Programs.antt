@@ -6,9 +6,9 @@ use Rattle.rtio_types.specs.declared.request.Request.{Request}
 use Rattle.rtio_types.specs.declared.request.Value.{Value}
 use Rattle.rtio_types.specs.declared.request.Value.TheVariants as W
 use Rattle.kern_syntax.specs.Tree.{Bytes, FunctionTree, ProgramTree}
-use Rattle.kern_types.specs.declared.types.ValueType.{ValueType}
-use Rattle.kern_types.specs.declared.types.ValueType.TheVariants as V
-use Rattle.kern_types.specs.Types.{Names, function_named, names_of}
+use Rattle.kern_calls.specs.declared.types.ValueType.{ValueType}
+use Rattle.kern_calls.specs.declared.types.ValueType.TheVariants as V
+use Rattle.kern_calls.specs.Types.{Names, function_named, names_of}
 use Rattle.timeline_sem.specs.Actions.{State, Reason, return, raised, budget, unanswered, Completion, normal, early, Action, give, stop, take_unit, ◌>>◌}
 use Rattle.timeline_sem.specs.Expressions.{Callee}
 use Rattle.timeline_sem.specs.Statements.{block}

@@ -12,8 +12,8 @@ use Rattle.kern_syntax.specs.declared.expression.BinaryOperator.{BinaryOperator}
 use Rattle.kern_syntax.specs.declared.expression.BinaryOperator.TheVariants as O
 use Rattle.kern_syntax.specs.Tree.{Bytes, Expression, variable, Statement, pass, evaluate, assign, assign_element, augment, augment_element, assign_repeated, assign_list, if_then, while_do, for_range, parallel, sequential, record_as, try_do, Block, done, line_then, Otherwise, no_else, else_do, elif_then, Handlers, no_handler, except_then}
 use Rattle.kern_syntax.specs.Tree as T
-use Rattle.kern_types.specs.declared.types.ValueType.TheVariants.{Int64}
-use Rattle.kern_types.specs.Types.{Scope, type_of}
+use Rattle.kern_calls.specs.declared.types.ValueType.TheVariants.{Int64}
+use Rattle.kern_calls.specs.Types.{Scope, type_of}
 use Rattle.timeline_sem.specs.Actions.{State, break, continue, return, raised, budget, Completion, normal, early, Action, go_on, give, skip, stop, take_unit, ask, cursor_now, set_cursor, ◌>>=◌, ◌>>◌}
 use Rattle.rtio_types.specs.Integers.{is_true}
 use Rattle.timeline_sem.specs.Expressions.{Callee, expression, read, write, read_element, write_element, operate, number_in_value}

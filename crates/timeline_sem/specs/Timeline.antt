@@ -7,7 +7,8 @@ use Rattle.rtio_types.specs.declared.request.Reply.{Reply}
 use Rattle.rtio_types.specs.declared.request.Reply.TheVariants as R
 use Rattle.rtio_types.specs.declared.request.Request.{Request}
 use Rattle.kern_syntax.specs.Tree.{Bytes}
-use Rattle.kern_types.specs.Calls.{Operation, on, off, pulse, write, gate_rising, gate_falling, gate_both, timestamp, count, counter, break_realtime, reset, wait_until, playback, playback_handle, get_handle, erase}
+use Rattle.kern_calls.specs.declared.calls.Operation.{Operation}
+use Rattle.kern_calls.specs.declared.calls.Operation.TheVariants as P
 use Rattle.timeline_sem.specs.Actions.{Action, normal, budget, give, skip, stop, take_unit, request, cursor_now, set_cursor, ◌>>=◌, ◌>>◌}
 use Rattle.rtio_types.specs.Integers.{low_bits}
 use Rattle.rtio_types.specs.Replies.{number_in}
@@ -139,20 +140,20 @@ no_value action = action >> give (pos 0)
 
 -- what a method does with its numbers and its text
 abbrev pub perform : Operation → List ℤ → Bytes → Action ℤ
-perform (on c) numbers text = no_value (output c 0 (pos 1))
-perform (off c) numbers text = no_value (output c 0 (pos 0))
-perform (pulse c) numbers text = no_value (pulse_for c (first_of_list numbers))
-perform (write c) numbers text = no_value (output c (low_bits 8 (first_of_list numbers)) (second_of_list numbers))
-perform (gate_rising c) numbers text = gate c (pos 1) (first_of_list numbers)
-perform (gate_falling c) numbers text = gate c (pos 2) (first_of_list numbers)
-perform (gate_both c) numbers text = gate c (pos 3) (first_of_list numbers)
-perform (timestamp c) numbers text = inquire (Q.Edge c (first_of_list numbers))
-perform (count c) numbers text = count_all_edges (Q.Edge c (first_of_list numbers))
-perform counter numbers text = inquire Q.Counter
-perform break_realtime numbers text = no_value move_to_real_time
-perform reset numbers text = no_value reset_core
-perform wait_until numbers text = no_value (tell (Q.Wait (first_of_list numbers)))
-perform playback numbers text = no_value (play (Q.Fetch text))
-perform playback_handle numbers text = no_value (play (Q.FetchHandle (first_of_list numbers)))
-perform get_handle numbers text = inquire (Q.Handle text)
-perform erase numbers text = no_value (tell (Q.Erase text))
+perform (P.On c) numbers text = no_value (output c 0 (pos 1))
+perform (P.Off c) numbers text = no_value (output c 0 (pos 0))
+perform (P.Pulse c) numbers text = no_value (pulse_for c (first_of_list numbers))
+perform (P.Write c) numbers text = no_value (output c (low_bits 8 (first_of_list numbers)) (second_of_list numbers))
+perform (P.GateRising c) numbers text = gate c (pos 1) (first_of_list numbers)
+perform (P.GateFalling c) numbers text = gate c (pos 2) (first_of_list numbers)
+perform (P.GateBoth c) numbers text = gate c (pos 3) (first_of_list numbers)
+perform (P.Timestamp c) numbers text = inquire (Q.Edge c (first_of_list numbers))
+perform (P.Count c) numbers text = count_all_edges (Q.Edge c (first_of_list numbers))
+perform P.Counter numbers text = inquire Q.Counter
+perform P.BreakRealtime numbers text = no_value move_to_real_time
+perform P.Reset numbers text = no_value reset_core
+perform P.WaitUntil numbers text = no_value (tell (Q.Wait (first_of_list numbers)))
+perform P.Playback numbers text = no_value (play (Q.Fetch text))
+perform P.PlaybackHandle numbers text = no_value (play (Q.FetchHandle (first_of_list numbers)))
+perform P.GetHandle numbers text = inquire (Q.Handle text)
+perform P.Erase numbers text = no_value (tell (Q.Erase text))

@@ -1,12 +1,18 @@
 // What holds of the meaning of every kernel.
 
 ghost use Rattle.kern_syntax.specs.Tree.{ProgramTree};
-ghost use Rattle.timeline_sem.specs.Laws.{UnitsNeverRise, RequestsAreOnlyAdded, RepliesExtend, EachRequestTakesAReply};
+ghost use Rattle.timeline_sem.specs.Laws.{UnitsNeverRise, RequestsTakeUnits, RequestsAreOnlyAdded, RepliesExtend, EachRequestTakesAReply};
 
 /// No function ends with more units than it began with, whatever it is answered, and no call with more than there were
 /// before it.
 pub fn units_never_rise()
     ensures { (program : ProgramTree) → UnitsNeverRise program }
+{}
+
+/// Each request takes a unit: the requests asked and the units left at the end of a function are together at most the
+/// units at its beginning, whatever it is answered, and so is what a call adds to the requests and leaves of the units.
+pub fn requests_take_units()
+    ensures { (program : ProgramTree) → RequestsTakeUnits program }
 {}
 
 /// A call, however it ends, keeps the requests that were asked before it, and adds its own behind them.

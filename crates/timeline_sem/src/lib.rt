@@ -5,6 +5,7 @@ mod laws;
 mod meant;
 
 pub use laws::{
-    each_request_takes_a_reply, replies_extend_meanings, requests_are_only_added, units_never_rise,
+    each_request_takes_a_reply, replies_extend_meanings, requests_are_only_added,
+    requests_take_units, units_never_rise,
 };
 pub use meant::MeantOutcome;

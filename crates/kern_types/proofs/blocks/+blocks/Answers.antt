@@ -3,12 +3,12 @@ use Rattle.std.proofs.lemmas.Result.{err_from_is_err_and}
 use Rattle.kern_syntax.specs.declared.statement.StmtKind.TheFolds.{the_lemmas}
 use Rattle.kern_syntax.specs.Tree.{for_range, if_then}
 use Rattle.kern_syntax.specs.TreeOf.{expression_of, block_of, branches_of, elif_of, statement_of}
-use Rattle.kern_types.specs.Answers.{Leaves, IsEndOf}
-use Rattle.kern_types.specs.KnownOf.{functions_of}
+use Rattle.kern_expression_types.specs.Answers.{Leaves, IsEndOf}
+use Rattle.kern_expression_types.specs.KnownOf.{functions_of}
 use Rattle.kern_types.specs.Statements.{block_verdict, branches_verdict, inside_loop, loop_verdict, statement_verdict}
-use Rattle.kern_types.specs.Verdicts.{well}
+use Rattle.kern_expression_types.specs.Verdicts.{well}
 use Rattle.kern_types.proofs.Branches.{leaves-same, leaves-then, branch-read, branch-ended, if-ended, if-then}
-use Rattle.kern_types.proofs.Lists.{drop-item}
+use Rattle.kern_expression_types.proofs.Lists.{drop-item}
 use Rattle.kern_types.proofs.blocks.+blocks.Goals as goal
 
 pub check_branches-returns-in_err-check_elif : goal.check_branches-returns-in_err-check_elif

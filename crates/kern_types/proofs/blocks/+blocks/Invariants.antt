@@ -1,6 +1,6 @@
 use Rattle.std.proofs.Common.{◌≡◌, None, drop}
 use Rattle.kern_syntax.specs.TreeOf.{block_of, lines_of, branches_of, handlers_of}
-use Rattle.kern_types.specs.KnownOf.{functions_of}
+use Rattle.kern_expression_types.specs.KnownOf.{functions_of}
 use Rattle.kern_types.specs.Statements.{block_verdict, branches_verdict, handlers_verdict}
 use Rattle.kern_types.proofs.blocks.+blocks.Given as goal
 

@@ -1,6 +1,6 @@
 use Rattle.std.proofs.Common.{◌≡◌, drop, map}
 use Rattle.kern_syntax.specs.TreeOf.{parameter_of}
-use Rattle.kern_types.specs.KnownOf.{functions_of}
+use Rattle.kern_expression_types.specs.KnownOf.{functions_of}
 use Rattle.kern_types.specs.Programs.{parameters_verdict}
 use Rattle.kern_types.proofs.headers.check_parameters.Given as goal
 

@@ -1,8 +1,8 @@
 use Rattle.std.proofs.Common.{rules, ◌≡◌, ◌+◌, ◌++◌, [], ◌∷◌, None, length, take, ap, subst, sym, ◌∙◌}
 use Rattle.kern_syntax.specs.TreeOf.{function_of, tree_of}
-use Rattle.kern_types.specs.Answers.{Passes}
-use Rattle.kern_types.specs.Calls.{look_up}
-use Rattle.kern_types.specs.Numbered.{numbered}
+use Rattle.kern_expression_types.specs.Answers.{Passes}
+use Rattle.kern_calls.specs.Calls.{look_up}
+use Rattle.kern_expression_types.specs.Numbered.{numbered}
 use Rattle.kern_types.specs.Programs.{body_functions, body_verdict}
 use Rattle.kern_types.proofs.Passed.{length-next, name-new, name-taken, next-numbered, on-ok-always, speaking-next}
 use Rattle.kern_types.proofs.program.check_function.Goals as goal

@@ -2,12 +2,12 @@ use Rattle.std.proofs.Common.{◌≡◌, ◌+◌, [], IsTrue, length, take, drop
 use Rattle.std.proofs.Math.ListN.{drop_of_length-le}
 use Rattle.std.proofs.lemmas.Result.{err_from_is_err_and}
 use Rattle.kern_syntax.specs.TreeOf.{function_of, tree_of}
-use Rattle.kern_types.specs.Answers.{IsEndOf, Passes}
-use Rattle.kern_types.specs.Numbered.{numbered}
+use Rattle.kern_expression_types.specs.Answers.{IsEndOf, Passes}
+use Rattle.kern_expression_types.specs.Numbered.{numbered}
 use Rattle.kern_types.specs.Plain.{with_plain}
 use Rattle.kern_types.specs.Programs.{function_verdict, functions_verdict, main_verdict, program_verdict}
-use Rattle.kern_types.specs.Verdicts.{is_well}
-use Rattle.kern_types.proofs.Lists.{drop-item}
+use Rattle.kern_expression_types.specs.Verdicts.{is_well}
+use Rattle.kern_expression_types.proofs.Lists.{drop-item}
 use Rattle.kern_types.proofs.Passed.{counted-next, end-of-well, function-ended, item-at, passes-leaving, program-step}
 use Rattle.kern_types.proofs.program.check_functions.Goals as goal
 

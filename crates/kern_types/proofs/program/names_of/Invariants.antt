@@ -1,7 +1,7 @@
 use Rattle.std.proofs.Common.{◌≡◌, ◌||◌, ℕ, List, drop, is_some}
 use Rattle.kern_syntax.specs.TreeOf.{tree_of}
-use Rattle.kern_types.specs.Before.{is_in}
-use Rattle.kern_types.specs.Types.{function_named}
+use Rattle.kern_expression_types.specs.Before.{is_in}
+use Rattle.kern_calls.specs.Types.{function_named}
 use Rattle.kern_types.proofs.program.names_of.Given as goal
 
 abbrev pub invariant-loop-function : goal.invariant-loop-function

@@ -1,10 +1,10 @@
 use Rattle.std.proofs.Common.{rules, ◌≡◌, ◌+◌, ◌++◌, [], ◌∷◌, drop, map, ap, ◌∙◌}
 use Rattle.kern_syntax.specs.TreeOf.{expression_of}
-use Rattle.kern_types.specs.Expressions.{expression_verdict, elements_verdict}
-use Rattle.kern_types.specs.KnownOf.{functions_of}
-use Rattle.kern_types.specs.Verdicts.{well, ◌>>=◌}
-use Rattle.kern_types.proofs.Bound.{element-read}
-use Rattle.kern_types.proofs.Lists.{drop-item}
+use Rattle.kern_expression_types.specs.Expressions.{expression_verdict, elements_verdict}
+use Rattle.kern_expression_types.specs.KnownOf.{functions_of}
+use Rattle.kern_expression_types.specs.Verdicts.{well, ◌>>=◌}
+use Rattle.kern_expression_types.proofs.Bound.{element-read}
+use Rattle.kern_expression_types.proofs.Lists.{drop-item}
 use Rattle.kern_types.proofs.statements.check_elements.Goals as goal
 
 pub loop-element-preserved : goal.loop-element-preserved

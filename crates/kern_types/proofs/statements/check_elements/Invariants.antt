@@ -1,8 +1,8 @@
 use Rattle.std.proofs.Common.{◌≡◌, ◌++◌, drop, map}
 use Rattle.kern_syntax.specs.TreeOf.{expression_of}
-use Rattle.kern_types.specs.Expressions.{elements_verdict}
-use Rattle.kern_types.specs.KnownOf.{functions_of}
-use Rattle.kern_types.specs.Verdicts.{well, ◌>>=◌}
+use Rattle.kern_expression_types.specs.Expressions.{elements_verdict}
+use Rattle.kern_expression_types.specs.KnownOf.{functions_of}
+use Rattle.kern_expression_types.specs.Verdicts.{well, ◌>>=◌}
 use Rattle.kern_types.proofs.statements.check_elements.Given as goal
 
 abbrev pub invariant-loop-element : goal.invariant-loop-element

@@ -2,7 +2,7 @@ use Rattle.std.proofs.Common.{rules, ◌≡◌, ap, sym}
 use Rattle.kern_syntax.specs.declared.statement.StmtKind.TheFolds.{the_lemmas}
 use Rattle.kern_syntax.specs.Tree.{assign_repeated}
 use Rattle.kern_syntax.specs.TreeOf.{expression_of, statement_of}
-use Rattle.kern_types.specs.KnownOf.{functions_of}
+use Rattle.kern_expression_types.specs.KnownOf.{functions_of}
 use Rattle.kern_types.specs.Statements.{simple_verdict, repeated_verdict}
 use Rattle.kern_types.proofs.Branches.{leaves-same}
 use Rattle.kern_types.proofs.statements.check_simple.Goals as goal

@@ -1,0 +1,5 @@
+pub mod Bound
+pub mod Lists
+pub mod Named
+pub mod Numbers
+pub mod Parameters

@@ -1,0 +1,10 @@
+use Rattle.std.proofs.Common.{rules, ◌≡◌, ap}
+use Rattle.kern_expression_types.specs.Verdicts.{well}
+use Rattle.kern_expression_types.proofs.Named.{added-named}
+use Rattle.kern_expression_types.proofs.names.Locals.add.Goals as goal
+
+pub returns : goal.returns
+returns c =
+    let key = c.in_ok-from_slice.field-0 in
+    let items : key.items ≡ c.args.name.now = search rules in
+    ap well (added-named c.self.inside.types.entries c.insert.new.self.entries key c.args.name.now c.args.kind c.args.self.now c.self.view_is items c.requires c.in_ok-insert.ensures.entries)
