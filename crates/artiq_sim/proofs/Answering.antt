@@ -27,12 +27,12 @@ use Rattle.artiq_sim.specs.declared.command.Command.{Command}
 use Rattle.artiq_sim.specs.declared.command.Command.TheVariants.{Sim, Check}
 use Rattle.artiq_sim.specs.declared.step.Step.{Step}
 use Rattle.artiq_sim.specs.Straight.{wrong_line}
-use Rattle.kern_types.specs.declared.fault.TypeEnd.{TypeEnd}
-use Rattle.kern_types.specs.declared.fault.TypeEnd.TheVariants as T
-use Rattle.kern_types.specs.declared.fault.TypeKind.{TypeKind}
-use Rattle.kern_types.specs.Answers as TypeAnswers
+use Rattle.kern_expression_types.specs.declared.fault.TypeEnd.{TypeEnd}
+use Rattle.kern_expression_types.specs.declared.fault.TypeEnd.TheVariants as T
+use Rattle.kern_expression_types.specs.declared.fault.TypeKind.{TypeKind}
+use Rattle.kern_expression_types.specs.Answers as TypeAnswers
 use Rattle.kern_types.specs.Programs.{IsTyped, program_verdict}
-use Rattle.kern_types.specs.Verdicts as V
+use Rattle.kern_expression_types.specs.Verdicts as V
 use Rattle.artiq_sim.specs.Texts.{IsTextOf, IsKernel, IsTextFor, IsRefused, no_tokens, no_tree, not_typed, too_large, not_straight, lex_line, syntax_line}
 use Rattle.artiq_sim.specs.Forms.{IsStraight, IsProgramRefused, ill, large, wrong, IsProgramReport, IsProgramDue, IsAnswerToProgram, IsReportOf}
 use Rattle.artiq_sim.specs.Answers.{status_of, ReportsText, IsDue, IsAnswerTo}

@@ -6,7 +6,8 @@ use Rattle.rtio_types.specs.declared.board.ChannelKind.TheVariants.{Out, OutRaw,
 use Rattle.std.specs.List.{find, range_with_len}
 use Rattle.std.proofs.lemmas.Slice.Eq.{bytes_eq-Decides}
 use Rattle.rtio_types.specs.Board.{name_of_channel, channel_of_name, kind_of_channel, has_address, is_output, is_output_kind}
-use Rattle.kern_types.specs.Calls.{on, off, method_named}
+use Rattle.kern_calls.specs.declared.calls.Operation.TheVariants.{On, Off}
+use Rattle.kern_calls.specs.Calls.{method_named}
 
 -- a fact of each of them
 abbrev pub AtEach : (ℕ → Type 0) → Type 0
@@ -57,11 +58,11 @@ pub channel_of_its_name : (c : ℕ) → is_output c ≡ true → channel_of_name
 channel_of_its_name = at_output (λ c. channel_of_name (name_of_channel c) ≡ Some c) (refl, refl, refl, refl, refl, refl, refl, refl, refl, refl, refl, refl, refl, refl, refl, refl, refl, refl, refl, refl, refl, refl, refl, refl)
 
 -- its methods
-pub on_of_name : (c : ℕ) → is_output c ≡ true → method_named (name_of_channel c) (codes "on") ≡ Some (on c)
-on_of_name = at_output (λ c. method_named (name_of_channel c) (codes "on") ≡ Some (on c)) (refl, refl, refl, refl, refl, refl, refl, refl, refl, refl, refl, refl, refl, refl, refl, refl, refl, refl, refl, refl, refl, refl, refl, refl)
+pub on_of_name : (c : ℕ) → is_output c ≡ true → method_named (name_of_channel c) (codes "on") ≡ Some (On c)
+on_of_name = at_output (λ c. method_named (name_of_channel c) (codes "on") ≡ Some (On c)) (refl, refl, refl, refl, refl, refl, refl, refl, refl, refl, refl, refl, refl, refl, refl, refl, refl, refl, refl, refl, refl, refl, refl, refl)
 
-pub off_of_name : (c : ℕ) → is_output c ≡ true → method_named (name_of_channel c) (codes "off") ≡ Some (off c)
-off_of_name = at_output (λ c. method_named (name_of_channel c) (codes "off") ≡ Some (off c)) (refl, refl, refl, refl, refl, refl, refl, refl, refl, refl, refl, refl, refl, refl, refl, refl, refl, refl, refl, refl, refl, refl, refl, refl)
+pub off_of_name : (c : ℕ) → is_output c ≡ true → method_named (name_of_channel c) (codes "off") ≡ Some (Off c)
+off_of_name = at_output (λ c. method_named (name_of_channel c) (codes "off") ≡ Some (Off c)) (refl, refl, refl, refl, refl, refl, refl, refl, refl, refl, refl, refl, refl, refl, refl, refl, refl, refl, refl, refl, refl, refl, refl, refl)
 
 -- each has the address 0
 pub has_address_0 : (c : ℕ) → is_output c ≡ true → has_address (kind_of_channel c) 0 ≡ true

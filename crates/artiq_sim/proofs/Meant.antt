@@ -16,9 +16,10 @@ use Rattle.rtio_types.specs.Board.{name_of_channel, is_of_board, is_output}
 use Rattle.rtio_types.specs.Time.{later}
 use Rattle.kern_syntax.specs.declared.expression.UnaryOperator.TheVariants.{Negate}
 use Rattle.kern_syntax.specs.Tree.{Bytes, Expression, integer, unary, method, no_more, value_then, Statement, evaluate, Block, done, line_then, FunctionTree}
-use Rattle.kern_types.specs.declared.types.ValueType.TheVariants.{Int32, Int64}
-use Rattle.kern_types.specs.Types.{Scope, width_of, names_of}
-use Rattle.kern_types.specs.Calls.{Operation, builtin_named}
+use Rattle.kern_calls.specs.declared.types.ValueType.TheVariants.{Int32, Int64}
+use Rattle.kern_calls.specs.Types.{Scope, width_of, names_of}
+use Rattle.kern_calls.specs.declared.calls.Operation.{Operation}
+use Rattle.kern_calls.specs.Calls.{builtin_named}
 use Rattle.timeline_sem.specs.Actions.{State, Completion, normal, early, raised, unanswered, go_on, skip, give, ◌>>=◌}
 use Rattle.timeline_sem.specs.Expressions.{Callee, expression, arguments, perform_call, perform_method}
 use Rattle.timeline_sem.specs.Statements.{statement, block}

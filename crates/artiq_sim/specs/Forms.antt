@@ -15,9 +15,9 @@ use Rattle.artiq_sim.specs.declared.finish.Finish.{Finish}
 use Rattle.artiq_sim.specs.declared.finish.Finish.TheVariants.{Whole, Raised, Unfinished}
 use Rattle.artiq_sim.specs.Report.{pending_at, report_text}
 use Rattle.kern_syntax.specs.Print.{program_text}
-use Rattle.kern_types.specs.declared.fault.TypeKind.{TypeKind}
+use Rattle.kern_expression_types.specs.declared.fault.TypeKind.{TypeKind}
 use Rattle.kern_types.specs.Programs.{IsTyped, program_verdict}
-use Rattle.kern_types.specs.Verdicts as V
+use Rattle.kern_expression_types.specs.Verdicts as V
 use Rattle.artiq_sim.specs.declared.command.Command.{Command}
 use Rattle.artiq_sim.specs.declared.command.Command.TheVariants.{Sim, Check}
 use Rattle.artiq_sim.specs.Texts.{IsKernel, max_nodes, type_line, code_line, form_line}

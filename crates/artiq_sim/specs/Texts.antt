@@ -9,10 +9,10 @@ use Rattle.kern_lexer.specs.declared.token.Token.{Token}
 use Rattle.kern_syntax.specs.Tree.{Bytes, ProgramTree}
 use Rattle.kern_syntax.specs.Nodes.{program_nodes, shown}
 use Rattle.kern_grammar.specs.Accepted.{HasTree, IsFirstFault}
-use Rattle.kern_types.specs.declared.fault.TypeKind.{TypeKind}
-use Rattle.kern_types.specs.declared.fault.TypeKind.TheVariants as T
+use Rattle.kern_expression_types.specs.declared.fault.TypeKind.{TypeKind}
+use Rattle.kern_expression_types.specs.declared.fault.TypeKind.TheVariants as T
 use Rattle.kern_types.specs.Programs.{IsTyped, program_verdict}
-use Rattle.kern_types.specs.Verdicts as V
+use Rattle.kern_expression_types.specs.Verdicts as V
 use Rattle.artiq_sim.specs.declared.command.Command.{Command}
 use Rattle.artiq_sim.specs.declared.command.Command.TheVariants.{Sim, Check}
 use Rattle.artiq_sim.specs.Straight.{wrong_line}
