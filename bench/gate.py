@@ -2,7 +2,7 @@
 """What the gate costs, crate by crate.
 
     python3 bench/gate.py --record LOG [WORD..]    runs `rt ci WORD..` and notes in LOG what each of its checks cost
-    python3 bench/gate.py LOG                      prints the table of such a log, and what is over its budget
+    python3 bench/gate.py LOG..                    prints the table of such logs, and what is over its budget
 
 Run by hand. With the word --anew the whole gate is proved from nothing, and without it only what this machine has not
 kept. Times are of processors, user and system together, read twice a second from /proc: what a check used up after its
@@ -89,25 +89,30 @@ def record(path, words):
     return run.returncode
 
 
-def show(path):
-    """Prints the table of a log, dearest crates first, and names those over their budget."""
-    spent, checks, whole = collections.defaultdict(lambda: dict.fromkeys(KINDS, 0.0)), collections.Counter(), None
-    with open(path, encoding="utf-8") as log:
-        for line in log:
-            seconds, crate, kind = line.split()
-            if crate == "whole":
-                whole = float(seconds), int(kind)
-            else:
-                spent[crate][kind] += float(seconds)
-                checks[crate, kind] += 1
+def lines_of(paths):
+    """Yields the lines of the logs."""
+    for path in paths:
+        with open(path, encoding="utf-8") as log:
+            yield from log
+
+
+def show(paths):
+    """Prints the table of the logs, dearest crates first, and names those over their budget."""
+    spent, checks, whole = collections.defaultdict(lambda: dict.fromkeys(KINDS, 0.0)), collections.Counter(), [0.0, 0]
+    for line in lines_of(paths):
+        seconds, crate, kind = line.split()
+        if crate == "whole":
+            whole = [whole[0] + float(seconds), whole[1] + int(kind)]
+        else:
+            spent[crate][kind] += float(seconds)
+            checks[crate, kind] += 1
     print("| crate | proof, s | tests, s | edits, s | together, min |\n|---|---|---|---|---|")
     for crate, of in sorted(spent.items(), key=lambda it: -sum(it[1].values())):
         cells = [f"{of[kind]:.0f}" if checks[crate, kind] else "" for kind in KINDS]
         print(f"| {crate} | {' | '.join(cells)} | {sum(of.values()) / 60:.1f} |")
     every = {kind: sum(of[kind] for of in spent.values()) / 60 for kind in KINDS}
     print(f"\nproofs {every['proof']:.0f}, tests {every['tests']:.0f}, edits {every['edits']:.0f} processor minutes")
-    if whole:
-        print(f"the whole run: {whole[0] / 60:.0f} processor minutes, {whole[1] / 60:.0f} minutes by the clock")
+    print(f"the whole: {whole[0] / 60:.0f} processor minutes, {whole[1] / 60:.0f} minutes by the clock")
     for crate, of in spent.items():
         limit = TOP_BUDGET if crate in TOP_CRATES else BUDGET
         if sum(of.values()) > limit:
@@ -118,10 +123,10 @@ def main():
     words = sys.argv[1:]
     if words[:1] == ["--record"] and len(words) > 1:
         return record(words[1], words[2:])
-    if len(words) != 1:
+    if not words or words[0].startswith("-"):
         print(__doc__, file=sys.stderr)
         return 2
-    show(words[0])
+    show(words)
     return 0
 
 
