@@ -6,6 +6,8 @@
 #[cfg(test)]
 mod faults;
 #[cfg(test)]
+mod printing;
+#[cfg(test)]
 mod texts;
 #[cfg(test)]
 mod tokens;

@@ -7,8 +7,6 @@ mod identifier;
 mod printing;
 mod program;
 mod statement;
-#[cfg(test)]
-mod tests;
 
 pub use counting::nodes;
 pub use expression::{Argument, BinaryOperator, Comparison, Expr, UnaryOperator};

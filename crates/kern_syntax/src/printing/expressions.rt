@@ -1,4 +1,4 @@
-// The text of expressions.
+//! The text of expressions.
 
 ghost use Rattle.std.specs.Prelude.{◌≡◌, ◌++◌, OnOk, decimal};
 ghost use Rattle.kern_syntax.specs.Print.{expression_text, joined, argument_texts, quoted, sign_of_binary, sign_of_comparison, sign_of_unary};
@@ -11,7 +11,7 @@ use itoa::Buffer;
 use rtio_types::Name;
 use std::alloc::AllocError;
 
-// Appends an expression.
+/// Appends an expression.
 #[cycle(expressions)]
 pub fn put_expression(text: &mut Vec<u8>, e: &Expr) -> Result<(), AllocError>
     ensures { OnOk result (text.new.items ≡ text.old.items ++ expression_text (expression_of e.now)) }
@@ -57,7 +57,7 @@ pub fn put_expression(text: &mut Vec<u8>, e: &Expr) -> Result<(), AllocError>
     }
 }
 
-// Appends a word or a sign, and the expression behind it.
+/// Appends a word or a sign, and the expression behind it.
 #[cycle(expressions)]
 pub fn put_after(text: &mut Vec<u8>, word: &[u8], e: &Expr) -> Result<(), AllocError>
     ensures { OnOk result (text.new.items ≡ text.old.items ++ word.now ++ expression_text (expression_of e.now)) }
@@ -68,7 +68,7 @@ pub fn put_after(text: &mut Vec<u8>, word: &[u8], e: &Expr) -> Result<(), AllocE
 
 ghost use Rattle.std.specs.Prelude.{codes};
 
-// Appends an element of an array, with its index in brackets.
+/// Appends an element of an array, with its index in brackets.
 #[cycle(expressions)]
 pub fn put_element(text: &mut Vec<u8>, array: &Identifier, index: &Expr) -> Result<(), AllocError>
     ensures { OnOk result (text.new.items
@@ -79,7 +79,7 @@ pub fn put_element(text: &mut Vec<u8>, array: &Identifier, index: &Expr) -> Resu
     put(text, b"]")
 }
 
-// Appends the arguments of a call in their parentheses.
+/// Appends the arguments of a call in their parentheses.
 #[cycle(expressions)]
 fn put_arguments(text: &mut Vec<u8>, arguments: &[Argument]) -> Result<(), AllocError>
     ensures { OnOk result (text.new.items
@@ -105,14 +105,14 @@ fn put_argument(text: &mut Vec<u8>, argument: &Argument) -> Result<(), AllocErro
 
 ghost use Rattle.std.specs.Prelude.{[], ◌==◌, if◌then◌else◌};
 
-// Appends what stands before the item at an index of a list.
+/// Appends what stands before the item at an index of a list.
 pub fn put_separator(text: &mut Vec<u8>, index: usize) -> Result<(), AllocError>
     ensures { OnOk result (text.new.items ≡ text.old.items ++ (if index == 0 then [] else codes ", ")) }
 {
     if index > 0 { put(text, b", ") } else { Ok(()) }
 }
 
-// Appends a text in its quotes.
+/// Appends a text in its quotes.
 pub fn put_quoted(text: &mut Vec<u8>, name: &Name) -> Result<(), AllocError>
     ensures { OnOk result (text.new.items ≡ text.old.items ++ quoted name.now) }
 {
@@ -121,7 +121,7 @@ pub fn put_quoted(text: &mut Vec<u8>, name: &Name) -> Result<(), AllocError>
     put(text, b"\"")
 }
 
-// Appends an integer in decimal.
+/// Appends an integer in decimal.
 pub fn put_integer(text: &mut Vec<u8>, value: u64) -> Result<(), AllocError>
     ensures { OnOk result (text.new.items ≡ text.old.items ++ decimal value) }
 {

@@ -1,4 +1,4 @@
-// The text of one line of a statement: of the whole line where it has no block, else of its header up to the colon.
+//! The text of one line of a statement: of the whole line where it has no block, else of its header up to the colon.
 
 ghost use Rattle.std.specs.Prelude.{◌≡◌, ◌++◌, OnOk, codes};
 ghost use Rattle.kern_syntax.specs.Print.{expression_text, target_text, sign_of_augment};
@@ -12,7 +12,7 @@ use crate::{Augment, Expr, Identifier, Target};
 use rtio_types::Name;
 use std::alloc::AllocError;
 
-// Appends a word and an expression, and ends the line.
+/// Appends a word and an expression, and ends the line.
 pub fn put_line(text: &mut Vec<u8>, word: &[u8], e: &Expr) -> Result<(), AllocError>
     ensures { OnOk result (text.new.items ≡ text.old.items ++ word.now ++ expression_text (expression_of e.now) ++ codes "\n") }
 {
@@ -20,7 +20,7 @@ pub fn put_line(text: &mut Vec<u8>, word: &[u8], e: &Expr) -> Result<(), AllocEr
     put(text, b"\n")
 }
 
-// Appends an assignment with its sign, and ends the line.
+/// Appends an assignment with its sign, and ends the line.
 pub fn put_assignment(
     text: &mut Vec<u8>,
     target: &Target,
@@ -54,7 +54,7 @@ pub fn augment_sign(operator: Augment) -> &'static [u8]
 ghost use Rattle.std.specs.Prelude.{map, decimal};
 ghost use Rattle.kern_syntax.specs.Print.{joined, quoted};
 
-// Appends the line `name = [value] * length`.
+/// Appends the line `name = [value] * length`.
 pub fn put_repeated(
     text: &mut Vec<u8>,
     name: &Identifier,
@@ -70,7 +70,7 @@ pub fn put_repeated(
     put(text, b"\n")
 }
 
-// Appends the line `name = [value, value, ..]`.
+/// Appends the line `name = [value, value, ..]`.
 pub fn put_elements(
     text: &mut Vec<u8>,
     name: &Identifier,
@@ -87,7 +87,7 @@ pub fn put_elements(
     put(text, b"]\n")
 }
 
-// Appends the header of a loop from 0.
+/// Appends the header of a loop from 0.
 pub fn put_for_to(text: &mut Vec<u8>, name: &Identifier, to: &Expr) -> Result<(), AllocError>
     ensures { OnOk result (text.new.items ≡ text.old.items ++ codes "for " ++ name.now ++ codes " in range(" ++ expression_text (expression_of to.now) ++ codes ")") }
 {
@@ -97,7 +97,7 @@ pub fn put_for_to(text: &mut Vec<u8>, name: &Identifier, to: &Expr) -> Result<()
     put(text, b")")
 }
 
-// Appends the header of a loop between two bounds.
+/// Appends the header of a loop between two bounds.
 pub fn put_for_from_to(
     text: &mut Vec<u8>,
     name: &Identifier,
@@ -113,7 +113,7 @@ pub fn put_for_from_to(
     put(text, b")")
 }
 
-// Appends the header of a block that is recorded under a name.
+/// Appends the header of a block that is recorded under a name.
 pub fn put_record(text: &mut Vec<u8>, name: &Name) -> Result<(), AllocError>
     ensures { OnOk result (text.new.items ≡ text.old.items ++ codes "with core_dma.record(" ++ quoted name.now ++ codes ")") }
 {
