@@ -11,6 +11,7 @@ pub mod ComparisonReads
 pub mod Comparisons
 pub mod Enclosed
 pub mod EndLast
+pub mod FirstFaults
 pub mod FirstSymbols
 pub mod Firsts
 pub mod FunctionFrom

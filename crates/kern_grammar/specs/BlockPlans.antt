@@ -1,4 +1,4 @@
--- Plans of statements with blocks, of functions and of programs.
+-- For the proofs alone: statements with blocks, functions and programs, which Blocks defines, stated again as plans of reading.
 use Rattle.std.specs.Prelude.{◌≡◌, ℕ, zero, suc, Bool, true, false, not, List, [], ◌∷◌, Option, Some, None, IsTrue, codes}
 use Rattle.kern_lexer.specs.Bytes.{Bytes}
 use Rattle.kern_lexer.specs.Symbols.{Symbol, Lexeme}

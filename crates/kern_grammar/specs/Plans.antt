@@ -1,4 +1,4 @@
--- Plans of reading: which tokens are taken one after another, by what comes next.
+-- For the proofs alone, no definition of the grammar: plans of reading, which tokens are taken one after another, by what comes next.
 use Rattle.std.specs.Prelude.{◌≡◌, ℕ, zero, suc, ◌-◌, List, [], ◌∷◌, ◌++◌, Bool, true, Option, Some, None, Result, Ok, Err, length, drop, not, if◌then◌else◌}
 use Rattle.kern_lexer.specs.Symbols.{Symbol, Lexeme}
 use Rattle.kern_grammar.specs.Phrases.{symbols_of, ◌⨾◌}

@@ -1,4 +1,4 @@
--- Reading an expression from the front of symbols: the tree and what follows it, or what is left from the first wrong symbol on.
+-- For the proofs alone: expressions, whose tokens Expressions defines, stated again as reading from the front of symbols, which gives the tree and what follows it, or what is left from the first wrong symbol on.
 use Rattle.std.specs.Prelude.{ℕ, zero, suc, List, [], ◌∷◌, Bool, true, false, ◌==◌, Option, Some, None, Result, Ok, Err, length, drop, if◌then◌else◌}
 use Rattle.kern_lexer.specs.Bytes.{Bytes}
 use Rattle.kern_lexer.specs.Symbols.{Symbol, name, key, number, quoted, sign}

@@ -1,4 +1,4 @@
--- Plans of the statements that stand on one line.
+-- For the proofs alone: the statements on one line, which Simple defines, stated again as plans of reading.
 use Rattle.std.specs.Prelude.{◌≡◌, ℕ, Bool, true, false, List, [], ◌∷◌, Some, None}
 use Rattle.kern_lexer.specs.Bytes.{Bytes}
 use Rattle.kern_lexer.specs.Symbols.{Symbol, Lexeme}

@@ -1,4 +1,4 @@
--- What the grammar of statements sees in a symbol.
+-- For the proofs alone: what the plans of reading see in a symbol.
 use Rattle.std.specs.Prelude.{ℕ, Bool, true, false, Option, Some, None, codes, if◌then◌else◌}
 use Rattle.std.specs.Str.{bytes_eq}
 use Rattle.kern_lexer.specs.Bytes.{Bytes}

@@ -6,4 +6,7 @@ mod joiner;
 mod laws;
 
 pub use joiner::Joiner;
-pub use laws::{canonical_tokens_parse, one_expression, one_tree};
+pub use laws::{
+    canonical_tokens_parse, fault_is_within, one_expression, one_first_fault, one_tree,
+    tree_or_fault,
+};
