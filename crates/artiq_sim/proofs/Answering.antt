@@ -1,7 +1,7 @@
 -- What is answered to a text, by its tokens, its tree and the tree's form.
 use Rattle.std.proofs.Common.{◌≡◌, ℕ, ◌<◌, ◌≤◌, List, [], ◌∷◌, length, take, drop, Bool, true, false, refl, sym, ap, subst, ◌∙◌, arith, Some, None, nat_lt, get_or}
 use Rattle.std.specs.Prelude.{ℤ, suc, Ok, Err, Result, IfOk, slice_get}
-use Rattle.std.proofs.lemmas.List.{length-map, take-append-drop, take_all}
+use Rattle.std.proofs.lemmas.List.{length-map}
 use Rattle.std.proofs.lemmas.Option.{slice_get_read}
 use Rattle.kern_lexer.specs.Symbols.{lexeme_of}
 use Rattle.artiq_sim.specs.declared.finish.Finish.{Finish}
@@ -19,7 +19,7 @@ use Rattle.kern_lexer.specs.Symbols.{Lexeme, lexemes_of}
 use Rattle.kern_lexer.specs.declared.token.Token.{Token}
 use Rattle.kern_syntax.specs.Tree.{Bytes, ProgramTree}
 use Rattle.kern_syntax.specs.Nodes.{program_nodes}
-use Rattle.kern_grammar.specs.Accepted.{HasTree, Begins, IsFirstFault}
+use Rattle.kern_grammar.specs.Accepted.{HasTree, IsFirstFault}
 use Rattle.kern_parser.specs.Answers.{EndsRightly}
 use Rattle.artiq_sim.specs.declared.answer.Answer.{Answer}
 use Rattle.artiq_sim.specs.declared.answer.Answer.TheVariants.{Due, Refused}
@@ -37,6 +37,7 @@ use Rattle.artiq_sim.specs.Texts.{IsTextOf, IsKernel, IsTextFor, IsRefused, no_t
 use Rattle.artiq_sim.specs.Forms.{IsStraight, IsProgramRefused, ill, large, wrong, IsProgramReport, IsProgramDue, IsAnswerToProgram, IsReportOf}
 use Rattle.artiq_sim.specs.Answers.{status_of, ReportsText, IsDue, IsAnswerTo}
 use Rattle.kern_lexer.proofs.Uniqueness.{one-list, not-both}
+use Rattle.kern_grammar.proofs.FirstFaults.{no_fault, within}
 use Rattle.artiq_sim.proofs.Checking.{count_of_steps}
 use Rattle.artiq_sim.proofs.StraightTrees.{nodes_of_lines}
 
@@ -94,14 +95,10 @@ answer_no_tokens command text told fault faults line = (
 
 -- ---- tokens without a tree
 
--- tokens that have a tree begin an accepted list wherever they are cut
-begins : (tokens : List Lexeme) (tree : ProgramTree) (n : ℕ) → HasTree tokens tree → Begins (take n tokens)
-begins tokens tree n has = record { more = drop n tokens; tree = tree; accepted = subst (λ ts. HasTree ts tree) (sym (take-append-drop n tokens)) has }
-
 tree_or_fault : (text : Bytes) (tokens : List Token) (place : ℕ) (program : ProgramTree) → HasTokens text tokens → IsFirstFault (lexemes_of text tokens) place → IsTextOf text program → ⊥
 tree_or_fault text tokens place program lexed fault is_text =
     let same = same_tokens text tokens is_text.tokens lexed is_text.lexed in
-    fault.through (begins (lexemes_of text tokens) program (suc place) (subst (λ ts. HasTree (lexemes_of text ts) program) (sym same) is_text.parsed))
+    no_fault (lexemes_of text tokens) program place (subst (λ ts. HasTree (lexemes_of text ts) program) (sym same) is_text.parsed) fault
 
 -- the token at a place
 pub token_at : (tokens : List Token) (place : ℕ) (token : Token) → place < length tokens → token ≡ get_or tokens place token → slice_get tokens place ≡ Some token
@@ -114,21 +111,8 @@ answer_no_tree command text told tokens place token lexed fault at line = (
   λ program taken. tree_or_fault text tokens place program lexed fault (text_of command text program taken),
 )
 
--- the first wrong token is one of the tokens
-beyond : (tokens : List Lexeme) (place : ℕ) → IsFirstFault tokens place → length tokens ≤ place → ⊥
-beyond tokens place fault past =
-    let all : take place tokens ≡ tokens = take_all place tokens past in
-    let more : take (suc place) tokens ≡ tokens = take_all (suc place) tokens (omega (arith, past)) in
-    fault.through (subst Begins (all ∙ sym more) fault.before)
-
-within_by : (text : Bytes) (tokens : List Token) (place : ℕ) → IsFirstFault (lexemes_of text tokens) place → (b : Bool) → nat_lt place (length tokens) ≡ b → place < length tokens
-within_by text tokens place fault true e = grind arith
-within_by text tokens place fault false e =
-    let past : length tokens ≤ place = grind arith in
-    absurd (beyond (lexemes_of text tokens) place fault (omega (arith, length-map tokens (lexeme_of text), past)))
-
 pub fault_within : (text : Bytes) (tokens : List Token) (place : ℕ) → IsFirstFault (lexemes_of text tokens) place → place < length tokens
-fault_within text tokens place fault = within_by text tokens place fault (nat_lt place (length tokens)) refl
+fault_within text tokens place fault = omega (arith, within (lexemes_of text tokens) place fault, length-map tokens (lexeme_of text))
 
 -- ---- a tree
 
