@@ -31,7 +31,7 @@ use Rattle.core_cpu.specs.declared.course.Way.TheVariants.{Goes, Returned, Raise
 use Rattle.core_cpu.specs.declared.phase.Phase.{Phase}
 use Rattle.core_cpu.specs.declared.phase.Phase.TheVariants.{Ready, Playing, Asking, Over}
 use Rattle.core_cpu.specs.declared.phase.Purpose.{Purpose}
-use Rattle.core_cpu.specs.declared.phase.Purpose.TheVariants.{Number, Nothing, Recorded as Brought, Played}
+use Rattle.core_cpu.specs.declared.phase.Purpose.TheVariants.{Number, Nothing, Fetched, Played}
 use Rattle.core_cpu.proofs.Here.{mark_is_small}
 use Rattle.core_cpu.proofs.Nearness.{falls_nearer, second_bound}
 use Rattle.core_cpu.proofs.Stops.{ready_is}
@@ -288,7 +288,7 @@ number_fits code held Number settled =
     let small = mark_is_small code settled.in_range (held.machine.top.place + 1) _ sound.top.stands.marked in
     small.height
 number_fits code held Nothing settled = tt
-number_fits code held Brought settled = tt
+number_fits code held Fetched settled = tt
 number_fits code held (Played left) settled = tt
 
 -- a reply keeps what is settled

@@ -11,7 +11,7 @@ use Rattle.core_isa.specs.declared.code.Code.{Code}
 use Rattle.core_cpu.specs.declared.phase.Phase.{Phase}
 use Rattle.core_cpu.specs.declared.phase.Phase.TheVariants.{Ready, Playing, Asking, Over}
 use Rattle.core_cpu.specs.declared.phase.Purpose.{Purpose}
-use Rattle.core_cpu.specs.declared.phase.Purpose.TheVariants.{Number, Nothing, Recorded as Brought, Played}
+use Rattle.core_cpu.specs.declared.phase.Purpose.TheVariants.{Number, Nothing, Fetched, Played}
 
 -- the code, the machine without its requests and replies, and what comes next
 pub record Moment : Type 0 where
@@ -27,7 +27,7 @@ with_history m replies asked = record m { replies = replies; asked = asked }
 abbrev pub take_reply : Purpose → Reply → Machine → Next
 take_reply Number reply m = push (number_in reply) m
 take_reply Nothing reply m = next m
-take_reply Brought reply m = play_reply reply m
+take_reply Fetched reply m = play_reply reply m
 take_reply (Played left) reply m = play_events left.events left.length m
 
 -- how the machine ends, as an outcome: a run of a CPU doesn't end with the horizon

@@ -61,7 +61,7 @@ pub fn answer(state: &mut State, purpose: Purpose, reply: Reply) -> Phase
     match purpose {
         Purpose::Number => state.push(number(&reply)),
         Purpose::Nothing => {}
-        Purpose::Recorded => {
+        Purpose::Fetched => {
             if let Reply::Trace(recording) = reply {
                 return Phase::Playing(Playback::of(recording));
             }

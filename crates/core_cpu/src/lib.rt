@@ -20,8 +20,6 @@ mod stack;
 mod state;
 mod step;
 mod stop;
-#[cfg(test)]
-mod tests;
 mod values;
 
 pub use cpu::Cpu;

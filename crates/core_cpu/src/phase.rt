@@ -11,7 +11,7 @@ pub enum Purpose {
     /// Nothing, unless it raises.
     Nothing,
     /// The recording that it brings is played.
-    Recorded,
+    Fetched,
     /// The playback goes on.
     Played(Playback),
 }

@@ -1,4 +1,4 @@
--- The same as tests, which compute.
+-- Which code is accepted, stated a second time for the proofs of a verifier: as tests, which compute.
 use Rattle.std.specs.Prelude.{◌≡◌, ℕ, ◌<◌, ◌≤◌, Bool, true, false, not, ◌&&◌, ◌==◌, nat_lt, nat_le, Option, Some, None, length, slice_get}
 use Rattle.core_isa.specs.Marks.{function_index}
 use Rattle.core_isa.specs.MarkTests.{is_right_place}

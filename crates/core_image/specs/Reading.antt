@@ -1,4 +1,5 @@
--- Reading an image from left to right, up to the first wrong field.
+-- The fields of Table stated a second time, for the proofs of a decoder: an image is read from left to right, up to the
+-- first wrong field.
 use Rattle.std.specs.Prelude.{◌≡◌, ℕ, zero, suc, ◌+◌, ◌-◌, ◌^◌, ◌%◌, ◌/◌, List, [], ◌∷◌, Bool, ◌&&◌, ◌==◌, nat_le, length, take, drop, slice_index, Result, Ok, Err, if◌then◌else◌, bytes_eq}
 use Rattle.std.specs.List.{list_all}
 use Rattle.std.specs.Int.{Width, byte_len, from_le_bytes, w16, w32, w64, cast_signed}

@@ -25,7 +25,7 @@ impl Reader<'_> {
         self.text(len)
     }
 
-    /// So many names.
+    // So many names.
     fn names(&mut self, alloc: Global, count: u16) -> Result<Vec<Name>, ReadEnd>
         ensures { Gives (λ v. v.items) result self.new.rest.now (times_at name_at count self.old.rest.now) }
     {
@@ -56,7 +56,7 @@ impl Reader<'_> {
         })
     }
 
-    /// So many functions of code with so many instructions.
+    // So many functions of code with so many instructions.
     fn functions(
         &mut self,
         alloc: Global,
@@ -78,7 +78,7 @@ impl Reader<'_> {
         Ok(functions)
     }
 
-    /// A mark.
+    // A mark.
     #[tactic(auto, unfolding(crate::specs::Reading::mark_at))]
     fn mark(&mut self) -> Result<Mark, WrongField>
         ensures { Reads (λ m. m) result self.new.rest.now (mark_at self.old.rest.now) }
@@ -100,7 +100,7 @@ impl Reader<'_> {
         Ok(CodeLine { instr, mark })
     }
 
-    /// So many instructions.
+    // So many instructions.
     fn lines(&mut self, alloc: Global, count: u32) -> Result<Vec<CodeLine>, ReadEnd>
         ensures { Gives (λ v. map parts_of_line v.items) result self.new.rest.now (times_at line_at count self.old.rest.now) }
     {
@@ -112,7 +112,7 @@ impl Reader<'_> {
         Ok(lines)
     }
 
-    /// An image, behind which bytes may follow.
+    // An image, behind which bytes may follow.
     #[tactic(auto, unfolding(crate::specs::Reading::image_at))]
     fn image(&mut self, alloc: Global) -> Result<Code, ReadEnd>
         ensures { Gives parts_of result self.new.rest.now (image_at self.old.rest.now) }
@@ -155,7 +155,7 @@ pub fn decode(alloc: Global, bytes: &[u8]) -> Result<Code, ImageEnd>
     }
 }
 
-/// Why some bytes give no code where memory was refused: a wrong field, if they have one.
+// Why some bytes give no code where memory was refused: a wrong field, if they have one.
 fn end_without_memory(bytes: &[u8]) -> ImageEnd
     ensures only { (code : Code) → IsInRange code → bytes.now ≡ image_of code → IsMemory result }
     ensures fault { IsEndOf bytes.now result }
@@ -169,7 +169,7 @@ fn end_without_memory(bytes: &[u8]) -> ImageEnd
     }
 }
 
-/// A fault at the place where the rest of some bytes begins.
+// A fault at the place where the rest of some bytes begins.
 fn fault_at(bytes: &[u8], rest: &[u8]) -> ImageEnd
     requires within { length rest.now ≤ length bytes.now }
     requires few { length bytes.now - length rest.now < 2 ^ 32 }

@@ -12,7 +12,7 @@ use core_isa::{Code, CodeFunction, CodeLine, Instr};
 use rtio_types::Name;
 use std::alloc::{AllocError, Global};
 
-/// The number of an instruction.
+// The number of an instruction.
 fn number_of(instr: Instr) -> u8
     ensures { result ≡ op_of instr }
 {
@@ -71,7 +71,7 @@ fn number_of(instr: Instr) -> u8
     }
 }
 
-/// Puts the operands of an instruction at the end.
+// Puts the operands of an instruction at the end.
 fn put_operands(out: &mut Vec<u8>, instr: Instr) -> Result<(), AllocError>
     ensures { OnOk result (out.new.items ≡ out.old.items ++ operand_bytes (operands_of instr)) }
 {
@@ -105,7 +105,7 @@ fn put_operands(out: &mut Vec<u8>, instr: Instr) -> Result<(), AllocError>
 
 ghost use Rattle.std.specs.Int.{w16, w32, to_le_bytes};
 
-/// Puts two numbers of two bytes at the end.
+// Puts two numbers of two bytes at the end.
 fn put_two(out: &mut Vec<u8>, m: u16, n: u16) -> Result<(), AllocError>
     ensures { OnOk result (out.new.items ≡ out.old.items ++ (to_le_bytes w16 m ++ to_le_bytes w16 n)) }
 {
@@ -113,7 +113,7 @@ fn put_two(out: &mut Vec<u8>, m: u16, n: u16) -> Result<(), AllocError>
     out.extend_from_slice(&n.to_le_bytes())
 }
 
-/// Puts an instruction with its mark at the end.
+// Puts an instruction with its mark at the end.
 fn put_line(out: &mut Vec<u8>, line: &CodeLine) -> Result<(), AllocError>
     ensures { OnOk result (out.new.items ≡ out.old.items ++ line_bytes (parts_of_line line.now)) }
 {
@@ -122,7 +122,7 @@ fn put_line(out: &mut Vec<u8>, line: &CodeLine) -> Result<(), AllocError>
     put_operands(out, line.instr)
 }
 
-/// Puts a function at the end.
+// Puts a function at the end.
 fn put_function(out: &mut Vec<u8>, function: &CodeFunction) -> Result<(), AllocError>
     ensures { OnOk result (out.new.items ≡ out.old.items ++ function_bytes function.now) }
 {
@@ -133,7 +133,7 @@ fn put_function(out: &mut Vec<u8>, function: &CodeFunction) -> Result<(), AllocE
     Ok(())
 }
 
-/// Puts a name at the end.
+// Puts a name at the end.
 fn put_name(out: &mut Vec<u8>, name: &Name) -> Result<(), AllocError>
     ensures { OnOk result (out.new.items ≡ out.old.items ++ name_bytes name.now) }
 {
@@ -144,7 +144,7 @@ fn put_name(out: &mut Vec<u8>, name: &Name) -> Result<(), AllocError>
 
 ghost use Rattle.core_image.specs.Spelling.{head_bytes};
 
-/// Puts what stands before all else at the end: how many functions, which one is main, how many names and lines.
+// Puts what stands before all else at the end: how many functions, which one is main, how many names and lines.
 fn put_head(
     out: &mut Vec<u8>,
     functions: u16,
@@ -159,7 +159,7 @@ fn put_head(
     put_counts(out, names, lines)
 }
 
-/// Puts how many names and how many lines there are at the end.
+// Puts how many names and how many lines there are at the end.
 fn put_counts(out: &mut Vec<u8>, names: u16, lines: u32) -> Result<(), AllocError>
     ensures { OnOk result (out.new.items ≡ out.old.items ++ (to_le_bytes w16 names ++ to_le_bytes w32 lines)) }
 {
@@ -167,7 +167,7 @@ fn put_counts(out: &mut Vec<u8>, names: u16, lines: u32) -> Result<(), AllocErro
     out.extend_from_slice(&lines.to_le_bytes())
 }
 
-/// Puts names at the end.
+// Puts names at the end.
 fn put_names(out: &mut Vec<u8>, names: &[Name]) -> Result<(), AllocError>
     ensures { OnOk result (out.new.items ≡ out.old.items ++ flat_map name_bytes names.now) }
 {
@@ -177,7 +177,7 @@ fn put_names(out: &mut Vec<u8>, names: &[Name]) -> Result<(), AllocError>
     Ok(())
 }
 
-/// Puts functions at the end.
+// Puts functions at the end.
 fn put_functions(out: &mut Vec<u8>, functions: &[CodeFunction]) -> Result<(), AllocError>
     ensures { OnOk result (out.new.items ≡ out.old.items ++ flat_map function_bytes functions.now) }
 {
@@ -187,7 +187,7 @@ fn put_functions(out: &mut Vec<u8>, functions: &[CodeFunction]) -> Result<(), Al
     Ok(())
 }
 
-/// Puts instructions at the end.
+// Puts instructions at the end.
 fn put_lines(out: &mut Vec<u8>, lines: &[CodeLine]) -> Result<(), AllocError>
     ensures { OnOk result (out.new.items ≡ out.old.items ++ flat_map line_bytes (map parts_of_line lines.now)) }
 {

@@ -10,8 +10,6 @@ mod operands;
 mod passing;
 mod reader;
 mod spot;
-#[cfg(test)]
-mod tests;
 mod verifying;
 
 pub use decoding::decode;

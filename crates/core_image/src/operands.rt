@@ -39,7 +39,7 @@ pub fn shape_at(op: u8) -> Shape
     }
 }
 
-/// The instruction of this number with one byte.
+// The instruction of this number with one byte.
 fn with_byte(op: u8, n: u8) -> Instr
     requires { shape_of op ≡ Shape.Byte }
     ensures op { op_of result ≡ op }
@@ -53,7 +53,7 @@ fn with_byte(op: u8, n: u8) -> Instr
     }
 }
 
-/// The instruction of this number with a number of two bytes.
+// The instruction of this number with a number of two bytes.
 fn with_short(op: u8, n: u16) -> Instr
     requires { shape_of op ≡ Shape.Short }
     ensures op { op_of result ≡ op }
@@ -71,7 +71,7 @@ fn with_short(op: u8, n: u16) -> Instr
     }
 }
 
-/// The instruction of this number with an array.
+// The instruction of this number with an array.
 fn with_array(op: u8, slot: u16, count: u16) -> Instr
     requires { shape_of op ≡ Shape.TwoShorts }
     ensures op { op_of result ≡ op }
@@ -84,7 +84,7 @@ fn with_array(op: u8, slot: u16, count: u16) -> Instr
     }
 }
 
-/// The instruction of this number with a place.
+// The instruction of this number with a place.
 fn with_place(op: u8, p: u32) -> Instr
     requires { shape_of op ≡ Shape.Place }
     ensures op { op_of result ≡ op }
@@ -97,7 +97,7 @@ fn with_place(op: u8, p: u32) -> Instr
     }
 }
 
-/// The instruction of this number, which has no operands.
+// The instruction of this number, which has no operands.
 fn with_nothing(op: u8) -> Instr
     requires least { op ≤ 50 }
     requires shape { shape_of op ≡ Shape.Nothing }

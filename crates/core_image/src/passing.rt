@@ -6,7 +6,7 @@ ghost use Rattle.core_image.specs.Reading.{Passes, name_at, times_at, functions_
 use crate::reader::{Reader, WrongField};
 
 impl Reader<'_> {
-    /// Passes so many names.
+    // Passes so many names.
     fn pass_names(&mut self, count: u16) -> Result<(), WrongField>
         ensures { Passes result self.new.rest.now (times_at name_at count self.old.rest.now) }
     {
@@ -16,7 +16,7 @@ impl Reader<'_> {
         Ok(())
     }
 
-    /// Passes so many functions of code with so many instructions.
+    // Passes so many functions of code with so many instructions.
     fn pass_functions(&mut self, count: u16, lines: u32) -> Result<(), WrongField>
         requires { 1 ≤ lines }
         ensures { Passes result self.new.rest.now (functions_at count 0 0 lines self.old.rest.now) }
@@ -31,7 +31,7 @@ impl Reader<'_> {
         Ok(())
     }
 
-    /// Passes so many instructions.
+    // Passes so many instructions.
     fn pass_lines(&mut self, count: u32) -> Result<(), WrongField>
         ensures { Passes result self.new.rest.now (times_at line_at count self.old.rest.now) }
     {

@@ -10,7 +10,7 @@ use crate::effect::{effect_of, is_live_one, takes_unit};
 use core_isa::{Code, CodeFunction, CodeLine, Instr, Mark};
 use rtio_types::{ChannelKind, kind_of};
 
-/// A mark that a place is to have; its numbers may be too large for any mark.
+// A mark that a place is to have; its numbers may be too large for any mark.
 #[derive(Clone, Copy, Debug, PartialEq, Eq)]
 struct WideMark {
     height: u16,
@@ -18,7 +18,7 @@ struct WideMark {
     rec: u16,
 }
 
-/// The same mark.
+// The same mark.
 fn wide(mark: Mark) -> WideMark
     ensures value { narrow result ≡ mark }
     ensures height { result.height < 256 }
@@ -31,7 +31,7 @@ fn wide(mark: Mark) -> WideMark
     }
 }
 
-/// The mark after some operands are taken and some left.
+// The mark after some operands are taken and some left.
 fn mark_after(mark: WideMark, taken: u8, given: u8) -> WideMark
     requires small { mark.height < 256 }
     requires there { taken ≤ mark.height }
@@ -43,21 +43,21 @@ fn mark_after(mark: WideMark, taken: u8, given: u8) -> WideMark
     }
 }
 
-/// The mark with so many handlers.
+// The mark with so many handlers.
 fn with_tries(mark: WideMark, tries: u16) -> WideMark
     ensures { narrow result ≡ record (narrow mark) { tries = tries } }
 {
     WideMark { tries, ..mark }
 }
 
-/// The mark with this number of an open recording.
+// The mark with this number of an open recording.
 fn with_recording(mark: WideMark, rec: u16) -> WideMark
     ensures { narrow result ≡ record (narrow mark) { rec = rec } }
 {
     WideMark { rec, ..mark }
 }
 
-/// Whether a mark is the one that is wanted.
+// Whether a mark is the one that is wanted.
 fn is_same(wanted: WideMark, found: Mark) -> bool
     ensures { result ≡ is_mark (narrow wanted) (Some found) }
 {
@@ -66,7 +66,7 @@ fn is_same(wanted: WideMark, found: Mark) -> bool
         && wanted.rec == found.rec as u16
 }
 
-/// Whether a channel of the board has an address.
+// Whether a channel of the board has an address.
 fn is_address(channel: u8, address: u8) -> bool
     ensures { result ≡ has_address (kind_of_channel channel) address }
 {
@@ -91,7 +91,7 @@ impl Spot<'_> {
     ghost use Rattle.core_image.specs.AcceptedTests.{IsSpot, is_good_place, takes_arguments_at};
     ghost use Rattle.core_isa.specs.MarkTests.{leads, has_array, operands_exist, goes_on, back_takes_unit, may_call, marks_follow, is_right};
 
-    /// Whether the instruction goes on at another place of its function, where this mark stands.
+    // Whether the instruction goes on at another place of its function, where this mark stands.
     fn leads_to(&self, to: u32, mark: WideMark) -> bool
         requires { IsSpot self.now.code.now self.now.function self.now.end self.now.place }
         ensures { result ≡ leads self.now.code.now self.now.place to (narrow mark) }
@@ -101,7 +101,7 @@ impl Spot<'_> {
             && is_same(mark, self.code.lines.items()[to as usize].mark)
     }
 
-    /// Whether it finds so many operands, and goes on at the next place with what it leaves.
+    // Whether it finds so many operands, and goes on at the next place with what it leaves.
     fn goes_on_with(&self, mark: WideMark, taken: u8, given: u8) -> bool
         requires spot { IsSpot self.now.code.now self.now.function self.now.end self.now.place }
         requires small { mark.height < 256 }
@@ -110,7 +110,7 @@ impl Spot<'_> {
         taken as u16 <= mark.height && self.leads_to(self.place + 1, mark_after(mark, taken, given))
     }
 
-    /// Whether a jump to a place is forward, or takes a unit there.
+    // Whether a jump to a place is forward, or takes a unit there.
     fn ends_turns(&self, to: u32) -> bool
         requires { IsSpot self.now.code.now self.now.function self.now.end self.now.place }
         ensures { result ≡ back_takes_unit self.now.code.now self.now.place to }
@@ -118,7 +118,7 @@ impl Spot<'_> {
         self.place < to || takes_unit(self.code.lines.items()[to as usize].instr)
     }
 
-    /// Whether the function of an index may be called.
+    // Whether the function of an index may be called.
     fn calls(&self, mark: WideMark, index: u16) -> bool
         requires spot { IsSpot self.now.code.now self.now.function self.now.end self.now.place }
         requires small { mark.height < 256 }
@@ -134,21 +134,21 @@ impl Spot<'_> {
         }
     }
 
-    /// Whether an array's slots exist.
+    // Whether an array's slots exist.
     fn is_array(&self, slot: u16, count: u16) -> bool
         ensures { result ≡ has_array self.now.function slot count }
     {
         1 <= count && slot as u32 + count as u32 <= self.function.slots as u32
     }
 
-    /// Whether a name exists.
+    // Whether a name exists.
     fn is_named(&self, name: u16) -> bool
         ensures { result ≡ nat_lt name (length self.now.code.now.names) }
     {
         (name as usize) < self.code.names.items().len()
     }
 
-    /// Whether the slots, names and channels that an instruction speaks of exist.
+    // Whether the slots, names and channels that an instruction speaks of exist.
     fn has_operands(&self, instr: Instr) -> bool
         ensures { result ≡ operands_exist self.now.code.now self.now.function instr }
     {
@@ -167,7 +167,7 @@ impl Spot<'_> {
         }
     }
 
-    /// Whether a handler may be added here whose place is this one.
+    // Whether a handler may be added here whose place is this one.
     fn handles_at(&self, mark: WideMark, to: u32) -> bool
         requires spot { IsSpot self.now.code.now self.now.function self.now.end self.now.place }
         requires small { mark.tries < 256 }
@@ -179,7 +179,7 @@ impl Spot<'_> {
             && self.leads_to(to, WideMark { height: 1, ..mark })
     }
 
-    /// Whether the marks are right where an instruction leads.
+    // Whether the marks are right where an instruction leads.
     fn follows(&self, line: CodeLine) -> bool
         requires { IsSpot self.now.code.now self.now.function self.now.end self.now.place }
         ensures { result ≡ marks_follow self.now.code.now self.now.function self.now.place line.mark line.instr }
@@ -218,7 +218,7 @@ impl Spot<'_> {
         }
     }
 
-    /// Whether a line meets the conditions on marks here.
+    // Whether a line meets the conditions on marks here.
     fn is_right_for(&self, line: CodeLine) -> bool
         requires { IsSpot self.now.code.now self.now.function self.now.end self.now.place }
         ensures { result ≡ is_right self.now.code.now self.now.place self.now.function line }
@@ -231,7 +231,7 @@ impl Spot<'_> {
             && self.follows(line)
     }
 
-    /// Whether the main function takes arguments and begins here.
+    // Whether the main function takes arguments and begins here.
     fn begins_main(&self) -> bool
         requires { IsSpot self.now.code.now self.now.function self.now.end self.now.place }
         ensures { result ≡ takes_arguments_at self.now.place (slice_get self.now.code.now.functions self.now.code.now.main) }

@@ -73,7 +73,7 @@ pub fn verify(code: Code) -> Result<Verified, BadCode>
     }
 }
 
-/// Where the function of an index begins; the end of the code behind the last function.
+// Where the function of an index begins; the end of the code behind the last function.
 fn start(code: &Code, index: usize) -> u32
     requires { IsInRange code.now }
     ensures { result ≡ start_of code.now index }
@@ -84,7 +84,7 @@ fn start(code: &Code, index: usize) -> u32
     }
 }
 
-/// The least place of the function of an index that isn't good.
+// The least place of the function of an index that isn't good.
 fn first_bad_of(code: &Code, index: usize) -> Option<u32>
     requires in_range { IsInRange code.now }
     requires there { index < length code.now.functions }
@@ -110,7 +110,7 @@ fn first_bad_of(code: &Code, index: usize) -> Option<u32>
     None
 }
 
-/// The least place of some code that isn't good.
+// The least place of some code that isn't good.
 fn first_bad(code: &Code) -> Option<u32>
     requires { IsInRange code.now }
     ensures none { IfNone result (AreGood code.now 0 (length code.now.lines)) }

@@ -58,7 +58,7 @@ pub fn play(code: &Code, state: &mut State, name: u16) -> Course
     ensures { TurnsTo (act code.now (I.Play name)) state.old result state.new }
 {
     let name = name_of(code, name);
-    asks(state, Purpose::Recorded, Request::Fetch { name })
+    asks(state, Purpose::Fetched, Request::Fetch { name })
 }
 
 /// Plays the recording of a handle.
@@ -68,7 +68,7 @@ pub fn play_handle(state: &mut State) -> Course
     ensures { (code : Code) → TurnsTo (act code I.PlayHandle) state.old result state.new }
 {
     let handle = state.pop();
-    asks(state, Purpose::Recorded, Request::FetchHandle { handle })
+    asks(state, Purpose::Fetched, Request::FetchHandle { handle })
 }
 
 /// Asks for a handle of the recording of a name.

@@ -1,7 +1,7 @@
 // Jumps, turns, calls and returns.
 
-use crate::tests::driver::{Answer, Begin, MAIN, accepted, told, told_of, told_straight};
-use crate::tests::image::{Function, ZERO, plainly};
+use crate::driver::{Answer, Begin, MAIN, accepted, told, told_of, told_straight};
+use crate::programs::{Function, ZERO, plainly};
 use core_isa::Instr::*;
 use std::test::Fail;
 

@@ -1,6 +1,6 @@
 // The cursor, outputs, recordings and playbacks.
 
-use crate::tests::driver::{Answer, Begin, MAIN, told_straight};
+use crate::driver::{Answer, Begin, MAIN, told_straight};
 use core_isa::Instr::{self, *};
 use rtio_types::Event;
 use std::test::Fail;

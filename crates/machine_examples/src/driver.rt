@@ -3,9 +3,8 @@
 ghost use Rattle.std.specs.Prelude.{◌≡◌, false, OnOk};
 ghost use Rattle.core_cpu.specs.Moments.{is_asking};
 
-use crate::step::function_of;
-use crate::tests::image::{Function, image_of, straight_image};
-use crate::{Cpu, Stop};
+use crate::programs::{Function, image_of, straight_image};
+use core_cpu::{Cpu, Stop};
 use core_image::{Verified, decode, verify};
 use core_isa::Instr;
 use rtio_types::{Event, Outcome, Recording, Reply, Request, Value, fits, well_formed};
@@ -111,7 +110,7 @@ pub fn told_of(
     let source = code.code();
     let index = begin.function as usize;
     assert!(rt; index < source.functions.items().len());
-    let entry = function_of(source, index);
+    let entry = source.functions.items()[index];
     assert!(rt; begin.args.len() == entry.params as usize);
     let mut cpu = Cpu::boot(
         alloc,

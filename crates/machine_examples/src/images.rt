@@ -2,7 +2,7 @@
 
 ghost use Rattle.std.specs.Prelude.{◌<◌, length};
 
-use super::*;
+use core_image::{ImageEnd, decode, encode, verify};
 use core_isa::{CodeFunction, CodeLine, Instr, Mark};
 use rtio_types::Name;
 use std::alloc::Global;

@@ -1,6 +1,6 @@
 // Requests that give a number or nothing, and requests without a unit.
 
-use crate::tests::driver::{Answer, Begin, MAIN, told_straight};
+use crate::driver::{Answer, Begin, MAIN, told_straight};
 use core_isa::Instr::{self, *};
 use std::test::Fail;
 

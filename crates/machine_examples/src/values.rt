@@ -1,6 +1,6 @@
 // Instructions on values: results, and what they raise.
 
-use crate::tests::driver::{Answer, MAIN, told_straight};
+use crate::driver::{Answer, MAIN, told_straight};
 use core_isa::Instr::{self, *};
 use std::alloc::Global;
 use std::test::Fail;

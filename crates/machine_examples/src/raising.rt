@@ -1,7 +1,7 @@
 // Handlers, and what becomes of operands, frames and recordings where something is raised.
 
-use crate::tests::driver::{Answer, MAIN, told};
-use crate::tests::image::{Block, Function, ZERO, plainly};
+use crate::driver::{Answer, MAIN, told};
+use crate::programs::{Block, Function, ZERO, plainly};
 use core_isa::Instr::*;
 use std::test::Fail;
 
