@@ -21,7 +21,7 @@ use Rattle.sed_lanes.specs.Lanes.{LanesState}
 use Rattle.sed_lanes.specs.Verdict.{Verdict, Underflow, Lane, Sequence, Undecided, verdict}
 use Rattle.sed_lanes.proofs.RisingLanes.{no-underflow}
 use Rattle.rtio_input.specs.Channel.{InputsState}
-use Rattle.rtio_input.specs.Past.{InputStep, Reset, StandFor}
+use Rattle.rtio_input.specs.Past.{InputStep, Reset, InputsStandFor}
 use Rattle.dma_store.specs.Kept.{KeptState}
 use Rattle.rtio_core.specs.declared.data.Config.{Config}
 use Rattle.rtio_core.specs.declared.data.Act.TheVariants.{Asked}
@@ -62,7 +62,7 @@ pub record IsAnswer (a : Inside) (outputs : Outputs) (inputs : InputsState) (sto
   pub fits : IsTrue (fits_request request reply)
   pub right : reply_to a.config a.entries.items request a.count ≡ Some reply
   pub played : IsPlayed outputs a.config.lanes a.config.depth (lane_steps (a.entries.items ++ asked_entry who request reply a.count ∷ [])) a.count
-  pub stands : StandFor inputs a.config.edges (outputs_at a.config a.entries.items a.count) (input_steps a.entries.items ++ input_steps (asked_entry who request reply a.count ∷ [])) a.count
+  pub stands : InputsStandFor inputs a.config.edges (outputs_at a.config a.entries.items a.count) (input_steps a.entries.items ++ input_steps (asked_entry who request reply a.count ∷ [])) a.count
   pub store_is : store ≡ kept_after (a.entries.items ++ asked_entry who request reply a.count ∷ [])
 
 pub asked_keeps : (a : Inside) (entries : Vec Entry Global) (outputs : Outputs) (inputs : InputsState) (store : KeptState) (who : ℕ) (request : Request) (reply : Reply) (left : ℕ) → IsCoreInside a → IsAnswer a outputs inputs store who request reply → entries.items ≡ a.entries.items ++ asked_entry who request reply a.count ∷ [] → left ≡ min (max a.limit (reading a.count) + a.config.cost) (2 ^ 64 - 1) → IsCoreInside (record a { entries = entries; pending = None; outputs = outputs; inputs = inputs; store = store; limit = left })
@@ -109,7 +109,7 @@ quiet_keeps a s entries store who request reply left see h asked fits no_output 
       fits = fits;
       right = known.right;
       played = played-quiet a (asked_entry who request reply a.count) h no_output;
-      stands = subst (λ (steps : List InputStep). StandFor a.inputs a.config.edges (outputs_at a.config a.entries.items a.count) (input_steps a.entries.items ++ steps) a.count) no_step (inputs-quiet a h);
+      stands = subst (λ (steps : List InputStep). InputsStandFor a.inputs a.config.edges (outputs_at a.config a.entries.items a.count) (input_steps a.entries.items ++ steps) a.count) no_step (inputs-quiet a h);
       store_is = kept;
     }) is raised
 
@@ -172,7 +172,7 @@ output_keeps a s entries outputs who e reply left see h running no_other formed 
     }) is raised
 
 -- an answered reset
-pub reset_keeps : (a : Inside) (s : CoreState) (entries : Vec Entry Global) (outputs : Outputs) (inputs : InputsState) (who : ℕ) (reply : Reply) (left : ℕ) → core_state a ≡ s → IsCoreInside a → IsOpenFor who s.history → NoOtherWaits s.waiting ask.Reset → reply ≡ answer.Time (pos (reading a.count)) → IsPlayed outputs a.config.lanes a.config.depth (lane_steps a.entries.items ++ Clear a.count ∷ []) a.count → StandFor inputs a.config.edges (outputs_at a.config a.entries.items a.count) (input_steps a.entries.items ++ Reset a.count ∷ []) a.count → entries.items ≡ a.entries.items ++ asked_entry who ask.Reset reply a.count ∷ [] → left ≡ min (max a.limit (reading a.count) + a.config.cost) (2 ^ 64 - 1) → IsCoreInside (record a { entries = entries; pending = None; outputs = outputs; inputs = inputs; limit = left })
+pub reset_keeps : (a : Inside) (s : CoreState) (entries : Vec Entry Global) (outputs : Outputs) (inputs : InputsState) (who : ℕ) (reply : Reply) (left : ℕ) → core_state a ≡ s → IsCoreInside a → IsOpenFor who s.history → NoOtherWaits s.waiting ask.Reset → reply ≡ answer.Time (pos (reading a.count)) → IsPlayed outputs a.config.lanes a.config.depth (lane_steps a.entries.items ++ Clear a.count ∷ []) a.count → InputsStandFor inputs a.config.edges (outputs_at a.config a.entries.items a.count) (input_steps a.entries.items ++ Reset a.count ∷ []) a.count → entries.items ≡ a.entries.items ++ asked_entry who ask.Reset reply a.count ∷ [] → left ≡ min (max a.limit (reading a.count) + a.config.cost) (2 ^ 64 - 1) → IsCoreInside (record a { entries = entries; pending = None; outputs = outputs; inputs = inputs; limit = left })
 reset_keeps a s entries outputs inputs who reply left see h running no_other replies played stands is raised =
     let seen = sym see in
     asked_keeps a entries outputs inputs a.store who ask.Reset reply left h

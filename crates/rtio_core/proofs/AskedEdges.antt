@@ -12,7 +12,7 @@ use Rattle.rtio_types.specs.Requests.{fits_request}
 use Rattle.rtio_types.specs.Time.{counter_reaching, reading}
 use Rattle.rtio_input.specs.Calls.{answered_steps}
 use Rattle.rtio_input.specs.Channel.{InputsState, edge_reply}
-use Rattle.rtio_input.specs.Past.{InputStep, StandFor}
+use Rattle.rtio_input.specs.Past.{InputStep, InputsStandFor}
 use Rattle.rtio_input.proofs.Fitting.{replies-fit}
 use Rattle.rtio_input.proofs.Undecided.{undecided-parts}
 use Rattle.rtio_core.specs.declared.data.Ask.TheVariants as asked
@@ -69,7 +69,7 @@ edge-steps who channel at bound answer.Overflow = refl
 edge-steps who channel at bound other = refl
 
 -- an answered request for an edge
-pub edge_keeps : (a : Inside) (s : CoreState) (entries : Vec Entry Global) (inputs : InputsState) (who channel : ℕ) (bound given : ℤ) (reply : Reply) (result : Option Reply) (left : ℕ) → core_state a ≡ s → IsCoreInside a → given ≡ bound → IsAsked s who (ask.Edge channel bound) reply → result ≡ Some reply → StandFor inputs a.config.edges (outputs_at a.config a.entries.items a.count) (input_steps a.entries.items ++ answered_steps a.count channel result) a.count → entries.items ≡ a.entries.items ++ asked_entry who (ask.Edge channel given) reply a.count ∷ [] → left ≡ min (max a.limit (reading a.count) + a.config.cost) (2 ^ 64 - 1) → IsCoreInside (record a { entries = entries; pending = None; inputs = inputs; limit = left })
+pub edge_keeps : (a : Inside) (s : CoreState) (entries : Vec Entry Global) (inputs : InputsState) (who channel : ℕ) (bound given : ℤ) (reply : Reply) (result : Option Reply) (left : ℕ) → core_state a ≡ s → IsCoreInside a → given ≡ bound → IsAsked s who (ask.Edge channel bound) reply → result ≡ Some reply → InputsStandFor inputs a.config.edges (outputs_at a.config a.entries.items a.count) (input_steps a.entries.items ++ answered_steps a.count channel result) a.count → entries.items ≡ a.entries.items ++ asked_entry who (ask.Edge channel given) reply a.count ∷ [] → left ≡ min (max a.limit (reading a.count) + a.config.cost) (2 ^ 64 - 1) → IsCoreInside (record a { entries = entries; pending = None; inputs = inputs; limit = left })
 edge_keeps a s entries inputs who channel bound given reply result left see h same was some stands is raised =
     let known : IsAsked (core_state a) who (ask.Edge channel bound) reply = subst (λ (x : CoreState). IsAsked x who (ask.Edge channel bound) reply) (sym see) was in
     asked_keeps a entries a.outputs inputs a.store who (ask.Edge channel bound) reply left h
@@ -80,7 +80,7 @@ edge_keeps a s entries inputs who channel bound given reply result left see h sa
       fits = edge-fits a channel bound reply h known.right;
       right = known.right;
       played = played-quiet a (asked_entry who (ask.Edge channel bound) reply a.count) h refl;
-      stands = subst (λ (steps : List InputStep). StandFor inputs a.config.edges (outputs_at a.config a.entries.items a.count) (input_steps a.entries.items ++ steps) a.count) (ap (answered_steps a.count channel) some ∙ edge-steps who channel a.count bound reply) stands;
+      stands = subst (λ (steps : List InputStep). InputsStandFor inputs a.config.edges (outputs_at a.config a.entries.items a.count) (input_steps a.entries.items ++ steps) a.count) (ap (answered_steps a.count channel) some ∙ edge-steps who channel a.count bound reply) stands;
       store_is = h.store ∙ sym (fold-append _ _ a.entries.items (asked_entry who (ask.Edge channel bound) reply a.count ∷ []));
     }) (subst (λ (z : ℤ). entries.items ≡ a.entries.items ++ asked_entry who (ask.Edge channel z) reply a.count ∷ []) same is) raised
 

@@ -5,7 +5,7 @@ use Rattle.rtio_types.specs.declared.event.Edge.{Edge}
 use Rattle.rtio_types.specs.declared.event.Event.{Event}
 use Rattle.rtio_input.specs.Calls.{are_of_cycle}
 use Rattle.rtio_input.specs.Channel.{InputsState}
-use Rattle.rtio_input.specs.Past.{InputStep, StandFor}
+use Rattle.rtio_input.specs.Past.{InputStep, InputsStandFor}
 use Rattle.rtio_core.specs.declared.one_core.Core.TheInside.{Inside}
 use Rattle.rtio_core.specs.declared.outputs.Outputs.{Outputs}
 use Rattle.rtio_core.specs.Core.{CoreState, core_top}
@@ -36,7 +36,7 @@ put-out-of-cycle a outputs count kept h played counted is =
     ap (are_of_cycle (a.count + 1)) (is ∙ put-out-behind a outputs count h played counted) ∙ next-of-cycle a.config a.entries.items a.count
 
 -- each part is what the history makes of it at the next counter
-pub tick_keeps : (a : Inside) (s : CoreState) (outputs : Outputs) (inputs : InputsState) (count : ℕ) (kept : List Event) → core_state a ≡ s → IsCoreInside a → s.counter < core_top s → IsPlayed outputs a.config.lanes a.config.depth (lane_steps a.entries.items) (a.count + 1) → count ≡ length a.outputs.put_out.items → kept ≡ drop count outputs.put_out.items → ((script : List Edge) (events : List Event) (steps : List InputStep) (counter : ℕ) → counter < a.count + 1 → StandFor a.inputs script events steps counter → StandFor inputs script (events ++ kept) steps (a.count + 1)) → IsCoreInside (record a { count = a.count + 1; outputs = outputs; inputs = inputs })
+pub tick_keeps : (a : Inside) (s : CoreState) (outputs : Outputs) (inputs : InputsState) (count : ℕ) (kept : List Event) → core_state a ≡ s → IsCoreInside a → s.counter < core_top s → IsPlayed outputs a.config.lanes a.config.depth (lane_steps a.entries.items) (a.count + 1) → count ≡ length a.outputs.put_out.items → kept ≡ drop count outputs.put_out.items → ((script : List Edge) (events : List Event) (steps : List InputStep) (counter : ℕ) → counter < a.count + 1 → InputsStandFor a.inputs script events steps counter → InputsStandFor inputs script (events ++ kept) steps (a.count + 1)) → IsCoreInside (record a { count = a.count + 1; outputs = outputs; inputs = inputs })
 tick_keeps a s outputs inputs count kept see h below played counted is stands =
     let later : a.count < core_top (core_state a) = subst (λ (x : CoreState). x.counter < core_top x) (sym see) below in
     let events : outputs_at a.config a.entries.items a.count ++ kept ≡ outputs_at a.config a.entries.items (a.count + 1) =
@@ -52,7 +52,7 @@ tick_keeps a s outputs inputs count kept see h below played counted is stands =
       pending = h.pending;
       formed = h.formed;
       played = played;
-      inputs = subst (λ (es : List Event). StandFor inputs a.config.edges es (input_steps a.entries.items) (a.count + 1)) events (stands _ _ _ a.count (omega arith) h.inputs);
+      inputs = subst (λ (es : List Event). InputsStandFor inputs a.config.edges es (input_steps a.entries.items) (a.count + 1)) events (stands _ _ _ a.count (omega arith) h.inputs);
       store = h.store;
       session = h.session;
       cursor = h.cursor;

@@ -16,7 +16,7 @@ use Rattle.output_merge.proofs.Cycles.{outputs-next}
 use Rattle.output_merge.proofs.Histories.{of_cycle}
 use Rattle.rtio_input.specs.Calls.{are_of_cycle}
 use Rattle.rtio_input.specs.Channel.{edge_reply}
-use Rattle.rtio_input.specs.Past.{InputStep, are_made_by, are_put_out_by, step_at, unread_at}
+use Rattle.rtio_input.specs.Past.{InputStep, are_made_by, are_put_out_by, input_step_at, unread_at}
 use Rattle.rtio_input.specs.Script.{are_edges_ok}
 use Rattle.rtio_input.proofs.Lists.{all-append, all-weaker}
 use Rattle.rtio_input.proofs.Undecided.{undecided-next}
@@ -73,7 +73,7 @@ made-at (Asked other reply at) chair = refl
 made-at (End outcome cursor at) chair = refl
 
 pub made-later : (from to : ℕ) (steps : List InputStep) → from ≤ to → are_made_by from steps ≡ true → are_made_by to steps ≡ true
-made-later from to steps le made = all-weaker (λ s. nat_le (step_at s) from) (λ s. nat_le (step_at s) to) steps made (λ s early. le-leb (step_at s) to (up (step_at s) (leb-true (step_at s) from early)))
+made-later from to steps le made = all-weaker (λ s. nat_le (input_step_at s) from) (λ s. nat_le (input_step_at s) to) steps made (λ s early. le-leb (input_step_at s) to (up (input_step_at s) (leb-true (input_step_at s) from early)))
   where
     up : (n : ℕ) → n ≤ from → n ≤ to
     up n less = omega (arith, less, le)
@@ -84,7 +84,7 @@ made-after config before (entry ∷ rest) made lawful =
     let at : last_at (before ++ entry ∷ []) ≡ act_at entry.act = fold-append _ _ before (entry ∷ []) in
     let grows : input_steps (before ++ entry ∷ []) ≡ input_steps before ++ input_steps (entry ∷ []) = filter_map-append (λ (e : Entry). input_step e.act) before (entry ∷ []) in
     let all : are_made_by (act_at entry.act) (input_steps before ++ input_steps (entry ∷ [])) ≡ true =
-    all-append (λ s. nat_le (step_at s) (act_at entry.act)) (input_steps before) (input_steps (entry ∷ [])) (made-later (last_at before) (act_at entry.act) (input_steps before) (not-earlier config before entry.chair entry.act lawful.0) made) (made-at entry.act entry.chair) in
+    all-append (λ s. nat_le (input_step_at s) (act_at entry.act)) (input_steps before) (input_steps (entry ∷ [])) (made-later (last_at before) (act_at entry.act) (input_steps before) (not-earlier config before entry.chair entry.act lawful.0) made) (made-at entry.act entry.chair) in
     let next : are_made_by (last_at (before ++ entry ∷ [])) (input_steps (before ++ entry ∷ [])) ≡ true = rw (at, grows) all in
     subst (λ (h : List Entry). are_made_by (last_at h) (input_steps h) ≡ true) (append_assoc before (entry ∷ []) rest) (made-after config (before ++ entry ∷ []) rest next lawful.1)
 

@@ -6,7 +6,7 @@ use Rattle.std.specs.declared.alloc.Global.{Global}
 use Rattle.std.specs.List.{range_with_len}
 use Rattle.sed_lanes.specs.Lanes.{empty_lanes, held_events}
 use Rattle.rtio_input.specs.Channel.{InputsState}
-use Rattle.rtio_input.specs.Past.{StandFor}
+use Rattle.rtio_input.specs.Past.{InputsStandFor}
 use Rattle.dma_store.specs.Kept.{KeptState, no_recordings}
 use Rattle.rtio_core.specs.declared.data.Config.{Config}
 use Rattle.rtio_core.specs.declared.data.Entry.{Entry}
@@ -50,7 +50,7 @@ played-new lanes depth o some few deep is_empty no_lines no_output short zeros n
     }
 
 -- what `new` makes is what an empty history makes of it
-pub new_keeps : (config : Config) (entries : Vec Entry Global) (outputs : Outputs) (inputs : InputsState) (store : KeptState) → IsTrue (is_config_ok config) → entries.items ≡ [] → IsPlayed outputs config.lanes config.depth [] 0 → StandFor inputs config.edges [] [] 0 → store ≡ no_recordings → IsCoreInside (record { config = config; entries = entries; count = 0; pending = None; outputs = outputs; inputs = inputs; store = store; session = None; cursor = pos 0; limit = 0 })
+pub new_keeps : (config : Config) (entries : Vec Entry Global) (outputs : Outputs) (inputs : InputsState) (store : KeptState) → IsTrue (is_config_ok config) → entries.items ≡ [] → IsPlayed outputs config.lanes config.depth [] 0 → InputsStandFor inputs config.edges [] [] 0 → store ≡ no_recordings → IsCoreInside (record { config = config; entries = entries; count = 0; pending = None; outputs = outputs; inputs = inputs; store = store; session = None; cursor = pos 0; limit = 0 })
 new_keeps config entries outputs inputs store ok none played stands kept =
     record {
       core = record {

@@ -13,7 +13,7 @@ use Rattle.sed_lanes.specs.Judged.{LaneStep, judged}
 use Rattle.output_merge.specs.Outputs.{outputs}
 use Rattle.output_merge.proofs.Staying.{outputs-stay}
 use Rattle.rtio_input.specs.Channel.{InputsState}
-use Rattle.rtio_input.specs.Past.{InputStep, StandFor}
+use Rattle.rtio_input.specs.Past.{InputStep, InputsStandFor}
 use Rattle.dma_store.specs.Kept.{KeptState}
 use Rattle.rtio_types.specs.declared.request.Request.{Request}
 use Rattle.rtio_types.specs.declared.request.Request.TheVariants as ask
@@ -59,11 +59,11 @@ outputs-kept config history entry counter at =
     ∙ outputs-stay config.lanes config.depth (lane_steps history) (lane_steps (entry ∷ [])) counter counter (entry-in-time entry.chair entry.act counter at)
 
 -- so the inputs stand for the history with it where they stand for one step of the inputs more, or for none if it is none
-pub inputs-grown : (config : Config) (history : List Entry) (entry : Entry) (counter : ℕ) (inputs : InputsState) → act_at entry.act ≡ counter → StandFor inputs config.edges (outputs_at config history counter) (input_steps history ++ input_steps (entry ∷ [])) counter → StandFor inputs config.edges (outputs_at config (history ++ entry ∷ []) counter) (input_steps (history ++ entry ∷ [])) counter
+pub inputs-grown : (config : Config) (history : List Entry) (entry : Entry) (counter : ℕ) (inputs : InputsState) → act_at entry.act ≡ counter → InputsStandFor inputs config.edges (outputs_at config history counter) (input_steps history ++ input_steps (entry ∷ [])) counter → InputsStandFor inputs config.edges (outputs_at config (history ++ entry ∷ []) counter) (input_steps (history ++ entry ∷ [])) counter
 inputs-grown config history entry counter inputs at stands =
     let grows : input_steps (history ++ entry ∷ []) ≡ input_steps history ++ input_steps (entry ∷ []) = filter_map-append (λ (e : Entry). input_step e.act) history (entry ∷ []) in
-    subst (λ (steps : List InputStep). StandFor inputs config.edges (outputs_at config (history ++ entry ∷ []) counter) steps counter) (sym grows)
-    (subst (λ events. StandFor inputs config.edges events (input_steps history ++ input_steps (entry ∷ [])) counter) (sym (outputs-kept config history entry counter at)) stands)
+    subst (λ (steps : List InputStep). InputsStandFor inputs config.edges (outputs_at config (history ++ entry ∷ []) counter) steps counter) (sym grows)
+    (subst (λ events. InputsStandFor inputs config.edges events (input_steps history ++ input_steps (entry ∷ [])) counter) (sym (outputs-kept config history entry counter at)) stands)
 
 -- what an entry brings
 pub record IsNextEntry (a : Inside) (entry : Entry) (outputs : Outputs) (inputs : InputsState) (store : KeptState) (session : Option (ℕ × ℕ)) (cursor : ℤ) (left : ℕ) : Type 0 where
@@ -72,7 +72,7 @@ pub record IsNextEntry (a : Inside) (entry : Entry) (outputs : Outputs) (inputs 
   pub fitting : IsActFitting entry.act
   pub bounded : a.count ≤ top a.config (a.entries.items ++ entry ∷ []) None
   pub played : IsPlayed outputs a.config.lanes a.config.depth (lane_steps (a.entries.items ++ entry ∷ [])) a.count
-  pub stands : StandFor inputs a.config.edges (outputs_at a.config a.entries.items a.count) (input_steps a.entries.items ++ input_steps (entry ∷ [])) a.count
+  pub stands : InputsStandFor inputs a.config.edges (outputs_at a.config a.entries.items a.count) (input_steps a.entries.items ++ input_steps (entry ∷ [])) a.count
   pub store_is : store ≡ kept_after (a.entries.items ++ entry ∷ [])
   pub session_is : session ≡ open_session (a.entries.items ++ entry ∷ [])
   pub cursor_is : cursor ≡ last_cursor (a.entries.items ++ entry ∷ [])
@@ -102,7 +102,7 @@ entry_keeps a entries entry outputs inputs store session cursor left h n is =
     }
 
 -- inputs that stand for the history stand for it with no step more
-pub inputs-quiet : (a : Inside) → IsCoreInside a → StandFor a.inputs a.config.edges (outputs_at a.config a.entries.items a.count) (input_steps a.entries.items ++ []) a.count
+pub inputs-quiet : (a : Inside) → IsCoreInside a → InputsStandFor a.inputs a.config.edges (outputs_at a.config a.entries.items a.count) (input_steps a.entries.items ++ []) a.count
 inputs-quiet a h = rw append-nil h.inputs
 
 -- an entry that is no output and no reset leaves the outputs as they are

@@ -4,7 +4,7 @@ use Rattle.std.specs.List.{list_all}
 use Rattle.rtio_types.specs.declared.event.Event.{Event}
 use Rattle.rtio_types.specs.declared.request.Reply.{Reply}
 use Rattle.rtio_types.specs.declared.request.Reply.TheVariants as answer
-use Rattle.rtio_types.specs.Time.{cycle_of}
+use Rattle.rtio_types.specs.Time.{cycle_of, mu_per_cycle}
 use Rattle.sed_lanes.specs.Verdict.{Sequence}
 use Rattle.output_merge.specs.Live.{live}
 use Rattle.output_merge.specs.Groups.{group_of, collisions}
@@ -26,4 +26,4 @@ CollisionsHaveReason config history =
 
 -- an event later than the limit doesn't underflow
 abbrev pub UnderflowHasReason : Config → List Entry → Event → Reply → Type 0
-UnderflowHasReason config before e reply = limit config.cost before / 8 < cycle_of e → reply ≢ answer.Underflow
+UnderflowHasReason config before e reply = limit config.cost before / mu_per_cycle < cycle_of e → reply ≢ answer.Underflow

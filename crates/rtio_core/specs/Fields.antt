@@ -3,7 +3,7 @@ use Rattle.std.specs.Prelude.{◌≡◌, ◌-◌, ◌^◌, Bool, true, IsTrue, m
 use Rattle.rtio_types.specs.declared.request.Waiting.{Waiting}
 use Rattle.rtio_types.specs.Requests.{is_well_formed, request_waiting}
 use Rattle.rtio_core.specs.declared.one_core.Core.TheInside.{Inside}
-use Rattle.rtio_input.specs.Past.{StandFor}
+use Rattle.rtio_input.specs.Past.{InputsStandFor}
 use Rattle.rtio_core.specs.Entries.{input_steps, kept_after, lane_steps, last_cursor, limit, open_session}
 use Rattle.rtio_core.specs.Reply.{outputs_at}
 use Rattle.rtio_core.specs.Played.{IsPlayed}
@@ -23,7 +23,7 @@ pub record IsCoreInside (a : Inside) : Type 0 where
   pub pending : open_session a.entries.items ≡ None → a.pending ≡ None
   pub formed : IsTrue (is_formed a.pending)
   pub played : IsPlayed a.outputs a.config.lanes a.config.depth (lane_steps a.entries.items) a.count
-  pub inputs : StandFor a.inputs a.config.edges (outputs_at a.config a.entries.items a.count) (input_steps a.entries.items) a.count
+  pub inputs : InputsStandFor a.inputs a.config.edges (outputs_at a.config a.entries.items a.count) (input_steps a.entries.items) a.count
   pub store : a.store ≡ kept_after a.entries.items
   pub session : a.session ≡ open_session a.entries.items
   pub cursor : a.cursor ≡ last_cursor a.entries.items

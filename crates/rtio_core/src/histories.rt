@@ -1,4 +1,4 @@
-//! What holds of every history.
+// What holds of every history.
 
 ghost use Rattle.std.specs.Prelude.{◌≡◌, ◌≤◌, ℕ, List, Some, IsTrue};
 ghost use Rattle.rtio_types.specs.declared.request.Request.{Request};

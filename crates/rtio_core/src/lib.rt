@@ -6,8 +6,6 @@ mod histories;
 mod one_core;
 mod outputs;
 mod replies;
-#[cfg(test)]
-mod tests;
 
 pub use data::{Act, Ask, Config, Entry, StartEnd, StartOf, Tick, config_ok};
 pub use histories::{a_name_fetches_what_was_saved_last, what_is_decided_stays_decided};

@@ -5,13 +5,13 @@ mod edges;
 mod recordings;
 mod ticking;
 
-ghost use Rattle.std.specs.Prelude.{◌≡◌, ◌≢◌, ◌↔◌, ◌≤◌, ◌<◌, List, ℕ, [], ◌∷◌, ◌++◌, IfOk, IfErr, IfSome, OnOk, OnErr, IsTrue, IsSome, Some, None, Ok, Err, option_map};
+ghost use Rattle.std.specs.Prelude.{◌≡◌, ◌<◌, ℕ, IfOk, IfSome, OnOk, OnErr, IsTrue, Some, None, Ok, Err};
 ghost use Rattle.rtio_types.specs.Requests.{is_well_formed, request_waiting};
 ghost use Rattle.rtio_core.specs.Entries.{is_config_ok, last_cursor, open_session};
 ghost use Rattle.rtio_core.specs.Reply.{outputs_at};
 ghost use Rattle.rtio_core.specs.Lawful.{IsOpenFor};
 ghost use Rattle.rtio_core.specs.Told.{TellsLog, log_at, log_lines_at, peaks_at};
-ghost use Rattle.rtio_core.specs.Core.{CoreState, IsCore, new_core, core_top};
+ghost use Rattle.rtio_core.specs.Core.{CoreState, IsCore, new_core};
 ghost use Rattle.rtio_core.specs.Calls.{started, ended, MayEnd};
 
 use crate::outputs::Outputs;
@@ -19,7 +19,7 @@ use crate::{Act, Config, Entry, StartEnd, StartOf};
 use dma_store::Store;
 use rtio_input::Inputs;
 use rtio_log::LogLine;
-use rtio_types::{Event, Outcome, Waiting};
+use rtio_types::{Event, Outcome, Waiting, reading};
 use std::alloc::{AllocError, Global};
 use std::marker::Model;
 
@@ -97,7 +97,7 @@ impl Core {
         let act = Act::Start { of, cursor, at };
         self.entries.push_reserved(Entry { chair: who, act });
         self.session = Some((who, rid));
-        self.limit = 8 * at;
+        self.limit = reading(at);
         Ok(cursor)
     }
 

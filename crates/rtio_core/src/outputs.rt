@@ -2,17 +2,15 @@
 
 ghost use Rattle.std.specs.Prelude.{◌≡◌, ◌≢◌, ◌≤◌, ◌<◌, ◌+◌, ◌^◌, ℕ, List, [], ◌∷◌, ◌++◌, IfOk, OnOk, OnErr, drop, length, map, vec_len, vec_capacity};
 ghost use Rattle.rtio_types.specs.Time.{cycle_of};
-ghost use Rattle.sed_lanes.specs.Calls.{wait_of};
 ghost use Rattle.sed_lanes.specs.Judged.{LaneStep, Submit, Clear};
-ghost use Rattle.sed_lanes.specs.Lanes.{held_events};
 ghost use Rattle.sed_lanes.specs.Verdict.{Undecided, verdict};
 ghost use Rattle.rtio_core.specs.Played.{IsPlayed, IsPlayedTo, HasRoom};
 ghost use Rattle.rtio_core.specs.Lines.{lines_for};
 
 use output_merge::merge;
 use rtio_log::{Log, LogKind, LogLine};
-use rtio_types::Event;
-use sed_lanes::{Heads, Lanes, Place, cycle_of};
+use rtio_types::{Event, cycle_of};
+use sed_lanes::{Heads, Lanes, Place};
 use std::alloc::{AllocError, Global};
 
 /// What a core keeps of its outputs.
@@ -37,7 +35,7 @@ pub struct Outputs {
 // No drain takes more: one event of each lane.
 const MOST_HEADS: u32 = 32;
 
-/// Puts events out in their order.
+// Puts events out in their order.
 fn put_out(from: &mut Heads, into: &mut Vec<Event>)
     requires { vec_len into.old + length from.old.items ≤ vec_capacity into.old }
     ensures items { into.new.items ≡ into.old.items ++ map (λ p. p.1) from.old.items }
@@ -52,7 +50,7 @@ fn put_out(from: &mut Heads, into: &mut Vec<Event>)
     from.clear();
 }
 
-/// Logs events in their order.
+// Logs events in their order.
 fn log_all(from: &mut Heads, kind: LogKind, log: &mut Log)
     requires { length from.old.items ≤ log.old.room }
     ensures lines { log.new.lines ≡ log.old.lines ++ lines_for kind from.old.items }

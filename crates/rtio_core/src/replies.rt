@@ -1,11 +1,11 @@
 // What a core replies, and what that costs.
 
-ghost use Rattle.std.specs.Prelude.{◌≡◌, ◌≤◌, ◌<◌, ◌+◌, ◌-◌, ◌^◌, ◌↔◌, IsTrue, min, max, pos, not};
+ghost use Rattle.std.specs.Prelude.{◌≡◌, ◌≤◌, ◌+◌, ◌-◌, ◌^◌, ◌↔◌, IsTrue, min, max, pos};
 ghost use Rattle.rtio_types.specs.Requests.{request_waiting};
-ghost use Rattle.rtio_types.specs.Time.{counter_reaching, reading};
+ghost use Rattle.rtio_types.specs.Time.{reading};
 ghost use Rattle.rtio_core.specs.Answers.{is_edge_reply, plain_reply};
 
-use rtio_types::{Reply, Request, Waiting};
+use rtio_types::{Reply, Request, Waiting, reading};
 
 /// Whether this is the request that waits.
 pub fn is_waiting(waiting: Waiting, request: &Request) -> bool
@@ -25,19 +25,12 @@ pub fn is_waiting(waiting: Waiting, request: &Request) -> bool
     }
 }
 
-/// What the counter reads, in mu.
+/// What the counter reads, in mu, as replies have it.
 pub fn reads(counter: u64) -> i64
     requires { counter ≤ 2 ^ 28 }
     ensures { result ≡ pos (reading counter) }
 {
-    8 * counter as i64
-}
-
-/// The least counter that reads at least this moment (mu).
-pub fn reaching(moment: i64) -> u64
-    ensures { result ≡ counter_reaching moment }
-{
-    (moment.max(0) as u64).div_ceil(8)
+    reading(counter) as i64
 }
 
 /// The reply to a request that is no output, once it is decided.
@@ -69,5 +62,5 @@ pub fn raised(limit: u64, at: u64, cost: u64) -> u64
     requires { at ≤ 2 ^ 28 }
     ensures { result ≡ min (max limit (reading at) + cost) (2 ^ 64 - 1) }
 {
-    limit.max(8 * at).saturating_add(cost)
+    limit.max(reading(at)).saturating_add(cost)
 }

@@ -1,6 +1,6 @@
 // Asking a core.
 
-ghost use Rattle.std.specs.Prelude.{◌≡◌, ◌≢◌, ◌≤◌, ◌<◌, ◌+◌, ◌^◌, IfOk, IfErr, OnOk, OnErr, IsTrue, IsSome, Some, None, Ok, Err, length, vec_len, vec_capacity, [], ◌∷◌, ◌++◌};
+ghost use Rattle.std.specs.Prelude.{◌≡◌, ◌≢◌, ◌≤◌, ◌<◌, IfOk, IfErr, OnErr, IsTrue, IsSome, Some, None, Ok, Err};
 ghost use Rattle.rtio_types.specs.declared.event.Event.{Event};
 ghost use Rattle.rtio_types.specs.declared.request.Reply.{Reply};
 ghost use Rattle.rtio_types.specs.declared.request.Request.TheVariants as kind;
@@ -14,10 +14,9 @@ ghost use Rattle.rtio_core.specs.Calls.{AnswersAsk, NoOtherWaits};
 ghost use Rattle.rtio_core.specs.Errors.{SequenceHasReason, UnderflowHasReason};
 
 use super::Core;
-use crate::replies::{is_waiting, plain_reply, raised, reaching, reads};
+use crate::replies::{is_waiting, plain_reply, raised, reads};
 use crate::{Act, Ask, Entry};
-use rtio_types::{Event, Reply, Request, Waiting};
-use sed_lanes::cycle_of;
+use rtio_types::{Event, Reply, Request, Waiting, counter_reaching, cycle_of};
 use std::alloc::Global;
 
 impl Core {
@@ -53,7 +52,7 @@ impl Core {
         }
     }
 
-    /// Answers a reading, a wait or a dataset, once it is decided.
+    // Answers a reading, a wait or a dataset, once it is decided.
     fn answer_plain(&mut self, who: u32, request: Request) -> Result<Ask, Request>
         requires open { IsOpenFor who self.old.history }
         requires request { IsTrue (is_well_formed request) }
@@ -77,7 +76,7 @@ impl Core {
         Ok(Ask::Reply(answer))
     }
 
-    /// Waits until the counter reads a moment (mu).
+    // Waits until the counter reads a moment (mu).
     fn ask_wait(&mut self, who: u32, until: i64) -> Result<Ask, Request>
         requires open { IsOpenFor who self.old.history }
         requires waiting { NoOtherWaits self.old.waiting (kind.Wait until) }
@@ -92,12 +91,12 @@ impl Core {
         let waiting = Waiting::Wait { until };
         self.pending = Some(waiting);
         Ok(Ask::NotYet {
-            until: reaching(until),
+            until: counter_reaching(until),
             waiting,
         })
     }
 
-    /// Puts an output on the timeline.
+    // Puts an output on the timeline.
     fn ask_output(&mut self, who: u32, event: Event) -> Result<Ask, Request>
         requires open { IsOpenFor who self.old.history }
         requires request { IsTrue (is_well_formed (kind.Out event)) }
@@ -118,7 +117,7 @@ impl Core {
         self.place(who, event)
     }
 
-    /// Answers an output that comes too late.
+    // Answers an output that comes too late.
     fn miss(&mut self, who: u32, event: Event) -> Result<Ask, Request>
         requires open { IsOpenFor who self.old.history }
         requires request { IsTrue (is_well_formed (kind.Out event)) }
@@ -144,7 +143,7 @@ impl Core {
         Ok(Ask::Reply(Reply::Underflow))
     }
 
-    /// Answers an output that a lane takes, or that is out of sequence.
+    // Answers an output that a lane takes, or that is out of sequence.
     fn place(&mut self, who: u32, event: Event) -> Result<Ask, Request>
         requires open { IsOpenFor who self.old.history }
         requires request { IsTrue (is_well_formed (kind.Out event)) }
@@ -171,7 +170,7 @@ impl Core {
         Ok(Ask::Reply(Reply::Done))
     }
 
-    /// Clears what isn't put out yet, and what wasn't read yet.
+    // Clears what isn't put out yet, and what wasn't read yet.
     fn reset(&mut self, alloc: Global, who: u32) -> Result<Ask, Request>
         requires open { IsOpenFor who self.old.history }
         requires waiting { NoOtherWaits self.old.waiting kind.Reset }

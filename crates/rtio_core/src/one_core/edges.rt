@@ -8,9 +8,9 @@ ghost use Rattle.rtio_core.specs.Lawful.{IsOpenFor};
 ghost use Rattle.rtio_core.specs.Calls.{AnswersAsk, NoOtherWaits};
 
 use super::Core;
-use crate::replies::{raised, reaching, same_edge_reply};
+use crate::replies::{raised, same_edge_reply};
 use crate::{Act, Ask, Entry};
-use rtio_types::{Request, Waiting};
+use rtio_types::{Request, Waiting, counter_reaching};
 
 impl Core {
     /// Takes the first unread edge of an input with a stamp below `up_to` mu.
@@ -29,12 +29,12 @@ impl Core {
         let waiting = Waiting::Edge { channel, up_to };
         self.pending = Some(waiting);
         Ok(Ask::NotYet {
-            until: reaching(up_to),
+            until: counter_reaching(up_to),
             waiting,
         })
     }
 
-    /// Answers a request for an edge that is decided.
+    // Answers a request for an edge that is decided.
     fn take_edge(&mut self, who: u32, channel: u8, up_to: i64) -> Result<Ask, Request>
         requires open { IsOpenFor who self.old.history }
         requires request { IsTrue (is_well_formed (kind.Edge channel up_to)) }

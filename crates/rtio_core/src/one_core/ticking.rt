@@ -1,6 +1,6 @@
 // The counter of a core.
 
-ghost use Rattle.std.specs.Prelude.{◌≡◌, ◌↔◌, ◌≤◌, ◌<◌, ◌+◌, IsTrue, Some, None, not};
+ghost use Rattle.std.specs.Prelude.{◌≡◌, ◌↔◌, ◌<◌, ◌+◌, IsTrue, Some, None, not};
 ghost use Rattle.rtio_types.specs.Requests.{is_well_formed, request_waiting};
 ghost use Rattle.rtio_core.specs.Reply.{is_decided};
 ghost use Rattle.rtio_core.specs.Core.{core_top};
@@ -10,7 +10,7 @@ ghost use Rattle.rtio_core.specs.Errors.{CollisionsHaveReason};
 use super::Core;
 use crate::Tick;
 use crate::replies::reads;
-use rtio_types::Waiting;
+use rtio_types::{MU_PER_CYCLE, Waiting, reading};
 
 impl Core {
     /// Raises the counter by one cycle, if it may go on: in an open session while it is within the limit, or a request
@@ -43,18 +43,18 @@ impl Core {
         self.count == self.config.horizon || !self.goes_on()
     }
 
-    /// Whether the counter may rise, below the horizon.
+    // Whether the counter may rise, below the horizon.
     fn goes_on(&self) -> bool
         requires { self.now.counter < self.now.config.horizon }
         ensures { IsTrue result ↔ (self.now.counter < core_top self.now) }
     {
         match self.session {
             None => self.count < self.outputs.greatest,
-            Some(_) => self.count < self.limit / 8 || self.waits(),
+            Some(_) => self.count < self.limit / MU_PER_CYCLE || self.waits(),
         }
     }
 
-    /// Whether a request waits that isn't decided.
+    // Whether a request waits that isn't decided.
     fn waits(&self) -> bool
         ensures { result ≡ has_to_wait self.now }
     {
@@ -64,7 +64,7 @@ impl Core {
         }
     }
 
-    /// Whether a request isn't decided at the counter.
+    // Whether a request isn't decided at the counter.
     fn is_undecided(&self, waiting: Waiting) -> bool
         requires { IsTrue (is_well_formed (request_waiting waiting)) }
         ensures { result ≡ not (is_decided self.now.config self.now.history (request_waiting waiting) self.now.counter) }
@@ -76,14 +76,14 @@ impl Core {
         }
     }
 
-    /// How far the session's answers reach (mu), or with no session open the events.
+    // How far the session's answers reach (mu), or with no session open the events.
     fn told_limit(&self) -> u64
         requires below { self.now.counter < self.now.config.horizon }
         requires top { self.now.counter ≡ core_top self.now }
         ensures { result ≡ told_limit self.now }
     {
         match self.session {
-            None => 8 * self.outputs.greatest,
+            None => reading(self.outputs.greatest),
             Some(_) => self.limit,
         }
     }

@@ -24,5 +24,5 @@ returns-then-is_decided-clause-memory c =
 pub returns-clause-answer : goal.returns-clause-answer
 returns-clause-answer c =
     let in_range : SFits w64 c.args.up_to = search rules in
-    edge-waits c.self.inside c.args.self.now c.args.who c.args.channel c.reaching.result c.args.up_to _ c.is_decided.result c.self.view_is (to_z-of_z w64 c.args.up_to in_range) c.requires.waiting c.if-is_decided.false
-    (c.is_decided.ensures.right _ _ _ c.self.invariant.inputs) c.reaching.ensures
+    edge-waits c.self.inside c.args.self.now c.args.who c.args.channel c.counter_reaching.result c.args.up_to _ c.is_decided.result c.self.view_is (to_z-of_z w64 c.args.up_to in_range) c.requires.waiting c.if-is_decided.false
+    (c.is_decided.ensures.right _ _ _ c.self.invariant.inputs) c.counter_reaching.ensures

@@ -8,4 +8,4 @@ pub invariant_of-self-2 : goal.invariant_of-self-2
 invariant_of-self-2 c =
     let in_range : SFits w64 c.self.inside.cursor = search rules in
     start_keeps c.self.inside c.push_reserved.new.self c.args.who c.args.of _ _ _ c.self.invariant c.in_default.is (to_z-of_z w64 _ in_range)
-    (pushed-onto _ _ _ _ c.push_reserved.ensures.items c.reserve.ensures.items) refl refl
+    (pushed-onto _ _ _ _ c.push_reserved.ensures.items c.reserve.ensures.items) refl c.reading-self-inside.ensures
