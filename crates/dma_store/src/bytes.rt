@@ -141,7 +141,7 @@ fn first_wrong(bytes: &[u8]) -> Option<u64>
     }
 }
 
-// The fields are format, number of events and length.
+// Where the first wrong field of the header begins: of its format, number of events and length.
 fn wrong_in_header(bytes: &[u8]) -> Option<u64>
     ensures { result ≡ wrong_among bytes.now header_fields }
 {
@@ -175,7 +175,7 @@ fn wrong_in_events(bytes: &[u8], count: u32) -> Option<u64>
     None
 }
 
-// The fields are channel, address, data and stamp.
+// Where the first wrong field of an event begins: of its channel, address, data and stamp.
 fn wrong_in_event(bytes: &[u8], at: usize) -> Option<u64>
     requires { at < 2 ^ 60 }
     ensures { result ≡ wrong_among bytes.now (event_fields at) }

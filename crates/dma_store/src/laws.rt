@@ -1,4 +1,4 @@
-//! What holds of every store, and of all recording bytes.
+// What holds of every store, and of all recording bytes.
 
 ghost use Rattle.std.specs.Prelude.{◌≡◌, ◌≢◌, ◌<◌, ◌≤◌, ◌^◌, ◌++◌, ◌↔◌, ℕ, ℤ, List, [], None, Some, length, slice_index, bytes_eq, if◌then◌else◌, IsTrue};
 ghost use Rattle.rtio_types.specs.Recordings.{Recorded};

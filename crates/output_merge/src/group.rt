@@ -45,7 +45,7 @@ pub struct Group {
     pub last: u64,
 }
 
-/// A group and one event more.
+// A group and one event more.
 fn with_event(group: Option<Group>, number: u64, event: &Event) -> Group
     ensures { (before : List (ℕ × Event)) → group ≡ summary_of before →
         summary_of (before ++ (number, event.now) ∷ []) ≡ Some result }
@@ -64,7 +64,7 @@ fn with_event(group: Option<Group>, number: u64, event: &Event) -> Group
     }
 }
 
-/// The group of a channel, and one event more if it is of that channel.
+// The group of a channel, and one event more if it is of that channel.
 fn with_item(group: Option<Group>, channel: u8, number: u64, event: &Event) -> Option<Group>
     ensures { (before : List (ℕ × Event)) →
         group ≡ summary_of (filter (λ p. p.1.channel == channel) before) →
@@ -89,7 +89,7 @@ pub fn group_of(heads: &Heads, channel: u8) -> Option<Group>
     group
 }
 
-/// Whether an output on a channel replaces an earlier one of the same stamp.
+// Whether an output on a channel replaces an earlier one of the same stamp.
 fn replaces(channel: u8) -> bool
     ensures { result ≡ replaces channel }
 {

@@ -1,4 +1,4 @@
-//! What holds of every history of the lanes, of what it puts out and what it logs.
+// What holds of every history of the lanes, of what it puts out and what it logs.
 
 ghost use Rattle.std.specs.Prelude.{◌≡◌, ◌≤◌, ◌+◌, ◌++◌, [], ◌∷◌, ℕ, List, length, map, nat_lt, true};
 ghost use Rattle.std.specs.List.{list_all};

@@ -15,7 +15,7 @@ use crate::place::{Order, insert};
 use rtio_types::Event;
 use sed_lanes::Heads;
 
-/// Puts a pair into a list in order if its part is this one.
+// Puts a pair into a list in order if its part is this one.
 fn insert_if(is_wanted: bool, into: &mut Heads, from: u32, order: Order, number: u64, event: Event)
     requires from { from ≤ length into.old.items }
     requires room { 0 < into.old.room }

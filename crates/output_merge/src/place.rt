@@ -17,7 +17,7 @@ pub enum Order {
 }
 
 impl Order {
-    /// Whether one pair stands before another.
+    // Whether one pair stands before another.
     fn is_before(self, one: (u64, Event), other: (u64, Event)) -> bool
         ensures { result ≡ stands_before self one other }
     {
@@ -37,7 +37,7 @@ impl Order {
     }
 }
 
-/// The place of a pair among those from a place on: that of the first of them that doesn't stand before it.
+// The place of a pair among those from a place on: that of the first of them that doesn't stand before it.
 fn place_of(into: &Heads, from: u32, order: Order, pair: (u64, Event)) -> u32
     requires { from ≤ length into.now.items }
     ensures within { result ≤ length into.now.items }

@@ -1,6 +1,6 @@
 -- The replies to a request for an edge fit it.
 use Rattle.std.proofs.Common.{◌≡◌, ℕ, Bool, true, false, List, [], ◌∷◌, ◌++◌, refl, ap, sym, ◌∙◌, cond}
-use Rattle.std.specs.Prelude.{ℤ, pos, int_le, int_lt, Option, Some, None, filter, fold, length, nat_lt, nat_le, ◌==◌, ◌&&◌}
+use Rattle.std.specs.Prelude.{ℤ, pos, int_le, int_lt, Some, None, filter, fold, length, nat_lt, nat_le, ◌==◌, ◌&&◌}
 use Rattle.std.specs.List.{list_all}
 use Rattle.rtio_types.specs.declared.event.Edge.{Edge}
 use Rattle.rtio_types.specs.declared.event.Event.{Event}

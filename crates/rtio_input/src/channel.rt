@@ -64,7 +64,7 @@ impl Channel {
         })
     }
 
-    /// The sensitivity at an edge, in a cycle with these events.
+    // The sensitivity at an edge, in a cycle with these events.
     fn sensitivity_at(&self, edge: &Edge, kept: &[Event]) -> u32
         ensures { result ≡ sensitivity_among self.now.sensitivity kept.now edge.now }
     {
@@ -77,7 +77,7 @@ impl Channel {
         sensitivity
     }
 
-    /// Keeps the stamp of a seen edge while there is room, and else sets the mark.
+    // Keeps the stamp of a seen edge while there is room, and else sets the mark.
     fn keep(&mut self, stamp: i64)
         ensures { self.new ≡ record self.old { unread = after_edge self.old.unread stamp } }
     {

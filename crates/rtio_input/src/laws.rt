@@ -1,4 +1,4 @@
-//! What holds of every past of the inputs.
+// What holds of every past of the inputs.
 
 ghost use Rattle.std.specs.Prelude.{◌≡◌, ◌≤◌, ◌+◌, ◌++◌, ℕ, ℤ, List, Some, None, true};
 ghost use Rattle.rtio_types.specs.declared.event.Edge.{Edge};

@@ -1,9 +1,6 @@
 //! The log of a core: which events were not put out, and why.
 #![tactic(auto)]
 
-#[cfg(test)]
-mod tests;
-
 ghost use Rattle.std.specs.Prelude.{◌≡◌, ◌+◌, ◌-◌, ◌<◌, ◌++◌, [], ◌∷◌, OnOk, OnErr};
 
 use rtio_types::Event;

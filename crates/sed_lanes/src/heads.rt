@@ -1,4 +1,5 @@
 // A list of events with their submission numbers, in room that was taken before.
+
 ghost use Rattle.sed_lanes.specs.Heads.{by_number};
 ghost use Rattle.std.specs.List.{IsDistinct};
 ghost use Rattle.std.specs.Map.{keys_of};

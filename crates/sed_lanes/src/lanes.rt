@@ -64,14 +64,14 @@ impl Lanes {
         })
     }
 
-    /// The lane behind the current one, wrapping round.
+    // The lane behind the current one, wrapping round.
     fn next(&self) -> u32
         ensures { result ≡ next_lane self.now }
     {
         (self.current + 1) % self.lanes.len() as u32
     }
 
-    /// Whether a lane holds as many events as it may.
+    // Whether a lane holds as many events as it may.
     fn is_full(&self, lane: u32) -> bool
         requires { lane < length self.now.lanes }
         ensures { result ≡ is_full_lane self.now lane }
@@ -79,7 +79,7 @@ impl Lanes {
         self.lanes[lane as usize].is_full(self.depth)
     }
 
-    /// Whether an event is of a later cycle than the last one that a lane took.
+    // Whether an event is of a later cycle than the last one that a lane took.
     fn may_enter(&self, lane: u32, event: &Event) -> bool
         requires { lane < length self.now.lanes }
         ensures { result ≡ may_enter self.now lane event.now }
@@ -87,7 +87,7 @@ impl Lanes {
         self.lanes[lane as usize].may_enter(cycle_of(event))
     }
 
-    /// The last cycle of a lane; 0 if it took nothing.
+    // The last cycle of a lane; 0 if it took nothing.
     fn last_of(&self, lane: u32) -> i64
         requires { lane < length self.now.lanes }
         ensures { (last : ℕ) → (lane_at self.now lane).last ≡ Some last → result ≡ pos last }
@@ -95,7 +95,7 @@ impl Lanes {
         self.lanes[lane as usize].last.unwrap_or(0) as i64
     }
 
-    /// The cycle at which a place of one of the two lanes is free that the event may enter.
+    // The cycle at which a place of one of the two lanes is free that the event may enter.
     fn until(&self, event: &Event) -> u64
         ensures { result ≡ until self.now event.now }
     {
@@ -111,7 +111,7 @@ impl Lanes {
         }
     }
 
-    /// Gives an event to a lane, which becomes the current one.
+    // Gives an event to a lane, which becomes the current one.
     fn accept(&mut self, lane: u32, number: u64, event: Event)
         requires lane { lane < length self.old.lanes }
         requires room { is_full_lane self.old lane ≡ false }

@@ -1,4 +1,4 @@
-//! What holds of every history of the lanes.
+// What holds of every history of the lanes.
 
 ghost use Rattle.std.specs.Prelude.{◌≡◌, ◌≢◌, ◌≤◌, ℕ, List, filter, length, true, nat_lt};
 ghost use Rattle.std.specs.List.{list_all};
