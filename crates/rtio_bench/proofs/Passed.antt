@@ -10,7 +10,7 @@ use Rattle.rtio_input.specs.Script.{edge_cycle, later_edges}
 use Rattle.rtio_types.specs.declared.request.Reply.{Reply}
 use Rattle.rtio_input.specs.Channel.{InputsState}
 use Rattle.rtio_input.specs.Calls.{after_ask, after_cycle, closed_channels, passed_before}
-use Rattle.rtio_input.specs.Past.{InputStep, StandFor}
+use Rattle.rtio_input.specs.Past.{InputStep, InputsStandFor}
 use Rattle.rtio_bench.specs.Reading.{IsRead, cycle_of_edge, gates, read_of, reads}
 
 -- none of them is of that cycle
@@ -36,13 +36,13 @@ read-passed from number channel reply old between new same cycled asked =
     subst (λ (edges : List Edge). list_all (λ x. nat_le (cycle_of_edge number + 1) (edge_cycle x)) edges ≡ true) (sym left) (later_edges-passed (cycle_of_edge number) old.left)
 
 -- one more edge was read
-pub read-more : (script : List Edge) (outputs : List Event) (steps : List InputStep) (count : ℕ) (stamp : ℤ) (after : InputsState) → IsRead script outputs (steps ++ reads count) count stamp after → StandFor after script outputs (steps ++ reads (count + 1)) (count + 1 + 1)
+pub read-more : (script : List Edge) (outputs : List Event) (steps : List InputStep) (count : ℕ) (stamp : ℤ) (after : InputsState) → IsRead script outputs (steps ++ reads count) count stamp after → InputsStandFor after script outputs (steps ++ reads (count + 1)) (count + 1 + 1)
 read-more script outputs steps count stamp after read =
     let next : cycle_of_edge count ≡ count + 1 + 1 = omega arith in
     let more : (steps ++ reads count) ++ read_of count ∷ [] ≡ steps ++ reads (count + 1) =
     append_assoc steps (reads count) (read_of count ∷ []) ∙ ap (λ (them : List InputStep). steps ++ them) (sym (map-range_with_len_more read_of 0 count count (omega arith))) in
-    subst (λ (n : ℕ). StandFor after script outputs (steps ++ reads (count + 1)) n) next
-    (subst (λ (them : List InputStep). StandFor after script outputs them (cycle_of_edge count)) more read.stands)
+    subst (λ (n : ℕ). InputsStandFor after script outputs (steps ++ reads (count + 1)) n) next
+    (subst (λ (them : List InputStep). InputsStandFor after script outputs them (cycle_of_edge count)) more read.stands)
 
 -- before the cycle behind it
 pub passed-more : (count : ℕ) (s : InputsState) → passed_before (cycle_of_edge count + 1) s ≡ true → passed_before (cycle_of_edge (count + 1)) s ≡ true

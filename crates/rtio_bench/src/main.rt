@@ -3,34 +3,19 @@
 
 mod edges;
 mod recordings;
+mod rounds;
 
-use crate::edges::edges_read;
-use crate::recordings::{Lengths, lengths_found};
-use std::alloc::Global;
+use crate::recordings::Lengths;
+use crate::rounds::{MOST, Sizes, all_rounds};
 use std::{env, io};
-
-// How many edges and how many recordings there may be.
-const MOST: u16 = 4096;
-
-// How many edges and recordings, and how often all is done.
-#[derive(Clone, Copy)]
-struct Sizes {
-    edges: u16,
-    recordings: u16,
-    rounds: u32,
-}
-
-// Sums over all rounds.
-#[derive(Clone, Copy)]
-struct Sums {
-    stamps: i64,
-    lengths: Lengths,
-}
 
 fn main(rt: HostRuntime) -> io::Result<()> {
     let Some(sizes) = read_sizes(&rt) else {
         return println!(rt; "words: EDGES RECORDINGS ROUNDS, the first two up to {MOST}");
     };
+    if MOST < sizes.edges || MOST < sizes.recordings {
+        return println!(rt; "too many: there may be {MOST} edges and {MOST} recordings");
+    }
     let Some(sums) = all_rounds(rt.alloc(), sizes) else {
         return println!(rt; "an edge or a recording is lost, or there is no memory");
     };
@@ -49,22 +34,4 @@ fn read_sizes(rt: &HostRuntime) -> Option<Sizes> {
         recordings: words.next()?.parse().ok()?,
         rounds: words.next()?.parse().ok()?,
     })
-}
-
-fn all_rounds(alloc: Global, sizes: Sizes) -> Option<Sums> {
-    if MOST < sizes.edges || MOST < sizes.recordings {
-        return None;
-    }
-    let mut sums = Sums {
-        stamps: 0,
-        lengths: Lengths {
-            by_name: 0,
-            by_handle: 0,
-        },
-    };
-    for _ in 0..sizes.rounds {
-        sums.stamps = sums.stamps.wrapping_add(edges_read(alloc, sizes.edges)?);
-        sums.lengths = sums.lengths.with(lengths_found(alloc, sizes.recordings)?);
-    }
-    Some(sums)
 }

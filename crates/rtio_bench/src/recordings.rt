@@ -1,49 +1,51 @@
 // Recordings that are looked up by name and by handle.
 
-ghost use Rattle.std.specs.Prelude.{◌≡◌, ◌<◌, ◌≤◌, Some, IfOk, IfSome, IsSome, IsTrue, option_map};
+ghost use Rattle.std.specs.Prelude.{◌≡◌, ◌<◌, ◌≤◌, Some, IfOk, IfSome, IsSome, IsTrue};
 ghost use Rattle.dma_store.specs.Kept.{is_playable};
 ghost use Rattle.rtio_bench.specs.Lookup.{length_handled, length_named, letter_of, name_of, recording_of};
+ghost use Rattle.rtio_bench.specs.Sums.{lengths_sum};
 
 use dma_store::Store;
 use rtio_types::{Event, Name, Recording};
 use std::alloc::{AllocError, Global};
 
-/// Sums of the lengths of recordings, in mu, that were found by name and by handle. They wrap.
+/// Sums of the lengths of recordings, in mu, that were found by name and by handle.
 #[derive(Clone, Copy)]
 pub struct Lengths {
     /// Found by name.
-    pub by_name: i64,
+    pub by_name: u64,
     /// Found by handle.
-    pub by_handle: i64,
-}
-
-impl Lengths {
-    /// These and the others.
-    pub fn with(self, others: Lengths) -> Lengths {
-        Lengths {
-            by_name: self.by_name.wrapping_add(others.by_name),
-            by_handle: self.by_handle.wrapping_add(others.by_handle),
-        }
-    }
+    pub by_handle: u64,
 }
 
 /// Saves so many recordings and looks up each: the sums of their lengths; None where one is lost or there is no memory.
+#[tactic(auto, using(crate::proofs::Sums::lengths_more, crate::proofs::Sums::lengths_bound))]
 pub fn lengths_found(alloc: Global, count: u16) -> Option<Lengths>
     requires { count ≤ 4096 }
+    ensures by_name { IfSome result (λ lengths. lengths.by_name ≡ lengths_sum count) }
+    ensures by_handle { IfSome result (λ lengths. lengths.by_handle ≡ lengths_sum count) }
 {
     let store = store_of(alloc, count)?;
-    let mut sums = Lengths {
-        by_name: 0,
-        by_handle: 0,
-    };
+    let mut by_name: u64 = 0;
+    let mut by_handle: u64 = 0;
     for number in 0..count {
         let name = name_of(number)?;
-        sums = sums.with(Lengths {
-            by_name: length_by_name(alloc, &store, &name)?,
-            by_handle: length_by_handle(alloc, &store, &name)?,
-        });
+        by_name += if_length_of(number, length_by_name(alloc, &store, &name)?)?;
+        by_handle += if_length_of(number, length_by_handle(alloc, &store, &name)?)?;
     }
-    Some(sums)
+    Some(Lengths { by_name, by_handle })
+}
+
+// The length of the recording of a number, if that is what was found.
+fn if_length_of(number: u16, found: i64) -> Option<u64>
+    ensures { IfSome result (λ length. length ≡ number) }
+{
+    let length = u64::from(number);
+    if found == length as i64 {
+        Some(length)
+    } else {
+        None
+    }
 }
 
 // The recordings from the first on, each under its name.
