@@ -27,7 +27,7 @@ use Rattle.timeline_sem.specs.Timeline.{delay, tell, inquire, append_event, subm
 use Rattle.timeline_sem.specs.Numbers.{exact_result}
 use Rattle.timeline_sem.specs.Expressions.{Callee, array_or_number, read, write as write_name, or_raise, place_in, with_item, list_in_value, number_in_value, read_element, write_element, operate, array_in, dataset_value, text_in, perform_builtin, perform_call, perform_method, unless_decided, expression, arguments}
 use Rattle.timeline_sem.proofs.Keeps.{Kept, Keeps, keeps_go_on, keeps_bind, keeps_then, keeps_give, keeps_stop, keeps_skip, keeps_take_unit, keeps_ask, keeps_cursor_now, keeps_set_cursor, keeps_append, keeps_output, keeps_count, keeps_read, keeps_write}
-use Rattle.timeline_sem.proofs.KeepsWhole.{AskedGrow, asked_grow, grown_from}
+use Rattle.timeline_sem.proofs.KeepsWhole.{AskedGrow, asked_grow, asked_grow_by_asking, grown_from}
 
 module _ (further : List Reply) where
   -- the state with more replies left
@@ -122,7 +122,7 @@ module _ (further : List Reply) where
 
   pub extends_ask : (q : Request) → Extends (ask q)
   extends_ask q =
-      record { from = λ s. extended_answer (record s { asked = s.asked ++ q ∷ [] }) s.replies; grows = keeps_ask AskedGrow AskedGrow asked_grow q }
+      record { from = λ s. extended_answer (record s { asked = s.asked ++ q ∷ [] }) s.replies; grows = keeps_ask AskedGrow AskedGrow asked_grow asked_grow_by_asking q }
 
   pub extends_request : (q : Request) → Extends (request q)
   extends_request q = extends_then extends_take_unit (extends_ask q)

@@ -18,7 +18,7 @@ use Rattle.timeline_sem.specs.Statements.{operator_of, when, either, after_turn,
 use Rattle.timeline_sem.specs.Laws.{RepliesExtend, GoesOn, final}
 use Rattle.timeline_sem.specs.Programs.{Meaning, meaning_of, opening, call_room, initial_values, leave_function, optional_body, function_call}
 use Rattle.rtio_types.specs.declared.request.Reply.{Reply}
-use Rattle.timeline_sem.proofs.KeepsWhole.{kept_final, AskedGrow, asked_grow, grown_from, keeps_after_turn, keeps_while, keeps_save_after, keeps_end_recording, keeps_recorded, keeps_after_try, keeps_attempt, keeps_left, keeps_body}
+use Rattle.timeline_sem.proofs.KeepsWhole.{kept_final, AskedGrow, asked_grow, asked_grow_by_asking, grown_from, keeps_after_turn, keeps_while, keeps_save_after, keeps_end_recording, keeps_recorded, keeps_after_try, keeps_attempt, keeps_left, keeps_body}
 use Rattle.timeline_sem.proofs.Extends.{Extended, Extends, with_more, extends_bind, extends_then, extends_give, extends_stop, extends_skip, extends_take_unit, extends_ask, extends_cursor_now, extends_set_cursor, extends_read, extends_write, extends_read_element, extends_write_element, extends_operate, extends_expression}
 
 module _ (further : List Reply) where
@@ -73,7 +73,7 @@ module _ (further : List Reply) where
   extended_save_after q before (early (raised x) s) d e = ap (λ d'. save_after q (with_more further before) d') e
   extended_save_after q before (early budget s) d e = ap (λ d'. save_after q (with_more further before) d') e
   extended_save_after q before (early unanswered s) d e =
-      grown_from (leave_recording before s) s _ (asked_grow.same s) (keeps_save_after AskedGrow AskedGrow asked_grow s q (with_more further before) d e)
+      grown_from (leave_recording before s) s _ (asked_grow.same s) (keeps_save_after AskedGrow AskedGrow asked_grow asked_grow_by_asking s q (with_more further before) d e)
 
   extended_end_recording : (name : Bytes) (before : State) (c d : Completion ⊤) → Extended further c d → Extended further (end_recording name before c) (end_recording name (with_more further before) d)
   extended_end_recording name before (normal a s) d e =

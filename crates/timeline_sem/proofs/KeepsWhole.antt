@@ -18,7 +18,7 @@ use Rattle.timeline_sem.specs.Expressions.{Callee, number_in_value, expression}
 use Rattle.timeline_sem.specs.Statements.{operator_of, when, either, after_turn, turn, while_turns, while_loop, for_turns, leave_recording, save_request, save_after, end_recording, recorded, after_try, attempt, values, optional_value, statement, block, parallel_block, otherwise, handler, name_of_exception}
 use Rattle.timeline_sem.specs.Laws.{UnitsNeverRise, RequestsAreOnlyAdded, final}
 use Rattle.timeline_sem.specs.Programs.{meaning, meaning_of, opening, call_room, leave_function, optional_body, function_call}
-use Rattle.timeline_sem.proofs.Keeps.{IsKept, KeptEarly, Kept, Keeps, kept_after, early_then, keeps_bind, keeps_then, keeps_give, keeps_stop, keeps_skip, keeps_take_unit, keeps_answer, keeps_go_on, keeps_cursor_now, keeps_set_cursor, keeps_read, keeps_write, keeps_read_element, keeps_write_element, keeps_operate, keeps_expression}
+use Rattle.timeline_sem.proofs.Keeps.{IsKept, IsKeptByAsking, KeptEarly, Kept, Keeps, kept_after, early_then, keeps_bind, keeps_then, keeps_give, keeps_stop, keeps_skip, keeps_take_unit, keeps_ask, keeps_answer, keeps_go_on, keeps_cursor_now, keeps_set_cursor, keeps_read, keeps_write, keeps_read_element, keeps_write_element, keeps_operate, keeps_expression}
 
 module _ (R L : State → State → Type 0) (law : IsKept R L) where
   keeps_when : (b : Bool) (action : Action ⊤) → Keeps R L law action → Keeps R L law (when b action)
@@ -59,6 +59,12 @@ module _ (R L : State → State → Type 0) (law : IsKept R L) where
 
   left : (before s : State) → R s (leave_recording before s)
   left before s = law.then' (law.cursor s before.cursor) (law.collected _ before.collected)
+
+  -- a recording that is saved when its unit was taken before
+  pub keeps_save_after : IsKeptByAsking R L → (s : State) (q : Request) (before : State) (c : Completion ⊤) → Kept R L s c → Kept R L s (save_after q before c)
+  keeps_save_after asking s q before (normal a s') r =
+      kept_after R L law _ (law.then' r (left before s')) (((keeps_bind R L law (keeps_ask R L law asking q) (λ reply. keeps_skip R L law)).from (leave_recording before s')))
+  keeps_save_after asking s q before (early reason s') r = early_then R L law reason s r (left before s')
 
   -- the unit of a recording that is saved is taken, what was there before is back, and the core is asked
   pub keeps_save : (s : State) (n : ℕ) (q : Request) (before : State) → s.units ≡ n → Kept R L s (save_after q before (take_unit_of n s))
@@ -229,6 +235,13 @@ asked_grow =
       cursor = λ s t. ([], sym (append-nil s.asked));
       values = λ s v. ([], sym (append-nil s.asked));
       collected = λ s c. ([], sym (append-nil s.asked));
+    }
+
+pub asked_grow_by_asking : IsKeptByAsking AskedGrow AskedGrow
+asked_grow_by_asking =
+    record {
+      reply = λ s q r rest e. (q ∷ [], refl);
+      unanswered = λ s q e. (q ∷ [], refl);
     }
 
 -- requests that are only added from a state on are so from one with the same requests

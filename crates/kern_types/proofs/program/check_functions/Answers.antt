@@ -1,4 +1,4 @@
-use Rattle.std.proofs.Common.{◌≡◌, ◌+◌, [], IsTrue, length, take, drop, refl, ap, subst, sym, ◌∙◌}
+use Rattle.std.proofs.Common.{◌≡◌, ◌+◌, [], IsTrue, Ok, length, take, drop, refl, ap, subst, sym, ◌∙◌}
 use Rattle.std.proofs.Math.ListN.{drop_of_length-le}
 use Rattle.std.proofs.lemmas.Result.{err_from_is_err_and}
 use Rattle.kern_syntax.specs.TreeOf.{function_of, tree_of}
@@ -73,10 +73,19 @@ loop-function-preserved c =
       left = program-step fs i plain item (program_verdict (tree_of fs)) at next c.loop-function.invariant.left passes ∙ ap (λ p. functions_verdict (tree_of fs) (tree_of (take (i + 1) fs)) p (tree_of (drop (i + 1) fs))) noted;
     }
 
-pub returns : goal.returns
-returns c =
+pub returns-in_err-check_main : goal.returns-in_err-check_main
+returns-in_err-check_main c =
     let fs = c.args.functions.now in
     let i = c.loop-function.function-index in
     let all : drop i fs ≡ [] = drop_of_length-le fs c.loop-function-test.false in
     let whole : program_verdict (tree_of fs) ≡ main_verdict (tree_of fs) = c.loop-function.invariant.left ∙ ap (λ rest. functions_verdict (tree_of fs) (tree_of (take i fs)) c.loop-function.plain (tree_of rest)) all in
-    subst (Passes c.check_main.result) (sym whole) (passes-leaving c.check_main.result tt (main_verdict (tree_of fs)) c.check_main.ensures)
+    let p = err_from_is_err_and c.from_residual-in_err-check_main.result c.from_residual-in_err-check_main.ensures.1 in
+    rw (p.1, p.2) (whole ∙ c.in_err-check_main.ensures)
+
+pub returns-in_ok-check_main : goal.returns-in_ok-check_main
+returns-in_ok-check_main c =
+    let fs = c.args.functions.now in
+    let i = c.loop-function.function-index in
+    let all : drop i fs ≡ [] = drop_of_length-le fs c.loop-function-test.false in
+    let whole : program_verdict (tree_of fs) ≡ main_verdict (tree_of fs) = c.loop-function.invariant.left ∙ ap (λ rest. functions_verdict (tree_of fs) (tree_of (take i fs)) c.loop-function.plain (tree_of rest)) all in
+    passes-leaving (Ok tt) tt (program_verdict (tree_of fs)) (whole ∙ c.in_ok-check_main.ensures)
