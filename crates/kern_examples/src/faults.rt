@@ -7,7 +7,7 @@ use std::process::Abort;
 use std::test::Fail;
 
 /// Asserts that the first wrong token of a text is this one, counted from 0.
-fn expect_fault(rt: &impl Abort, alloc: Global, text: &str, token: u32) -> Result<(), Fail> {
+pub fn expect_fault(rt: &impl Abort, alloc: Global, text: &str, token: u32) -> Result<(), Fail> {
     let bytes = text.as_bytes();
     assert!(rt; bytes.len() < 1000);
     let tokens = lex(alloc, bytes)?;
@@ -94,7 +94,7 @@ fn a_wrong_statement_with_a_block_is_named(rt: HostRuntime) -> Result<(), Fail> 
 }
 
 /// So many times the same text.
-fn repeated(alloc: Global, text: &str, count: usize) -> Result<String, Fail> {
+pub fn repeated(alloc: Global, text: &str, count: usize) -> Result<String, Fail> {
     let mut all = String::new(alloc);
     for _ in 0..count {
         all.push_str(text)?;
@@ -124,17 +124,4 @@ fn what_is_too_deep_or_too_long_is_named(rt: HostRuntime) -> Result<(), Fail> {
         expect_fault(&rt, alloc, text.as_str(), *token)?;
     }
     Ok(())
-}
-
-#[test]
-fn the_seventeenth_block_is_named(rt: HostRuntime) -> Result<(), Fail> {
-    let alloc = rt.alloc();
-    let mut text = "def main():\n".to_string(alloc)?;
-    // the function's block is the first, and each `if` has five tokens before the next one
-    for depth in 1..17 {
-        let spaces = repeated(alloc, " ", depth)?;
-        text.push_str(spaces.as_str())?;
-        text.push_str("if 1:\n")?;
-    }
-    expect_fault(&rt, alloc, text.as_str(), 82)
 }

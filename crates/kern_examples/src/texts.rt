@@ -8,7 +8,7 @@ use std::process::Abort;
 use std::test::Fail;
 
 /// Asserts that a text has a tree, with this canonical text and so many nodes.
-fn expect_printed(
+pub fn expect_printed(
     rt: &impl Abort,
     alloc: Global,
     text: &str,

@@ -10,6 +10,7 @@ use Rattle.kern_grammar.specs.Reading.{Read, Item, value, text}
 use Rattle.kern_grammar.specs.Spelled.{symbols_in}
 use Rattle.kern_expressions.specs.declared.read_end.ReadEnd.{ReadEnd}
 use Rattle.kern_expressions.specs.declared.read_end.ReadEnd.TheVariants as E
+use Rattle.kern_expressions.specs.declared.read_end.WrongToken.{WrongToken}
 use Rattle.kern_expressions.specs.declared.tokens.Tokens.{Tokens}
 
 -- the symbols of the tokens that are left
@@ -26,9 +27,17 @@ abbrev pub GivesRead : {X Y : Type 0} → (X → Y) → Result (X × Tokens) Rea
 GivesRead view (Ok x) read = read ≡ Ok (view x.0, symbols_left x.1)
 GivesRead view (Err end) read = IsReadEnd end read
 
+-- of a function that keeps nothing they are that in any case, and an end is the first fault
+abbrev pub FindsRead : {X Y : Type 0} → (X → Y) → Result (X × Tokens) WrongToken → Read Y → Type 0
+FindsRead view (Ok x) read = read ≡ Ok (view x.0, symbols_left x.1)
+FindsRead view (Err wrong) read = read ≡ Err (symbols_left wrong.left)
+
 -- what a function gives is the expression that reading gives
 abbrev pub GivesExpression : Result (Expr × Tokens) ReadEnd → Read Expression → Type 0
 GivesExpression result read = GivesRead expression_of result read
+
+abbrev pub FindsExpression : Result (Expr × Tokens) WrongToken → Read Expression → Type 0
+FindsExpression result read = FindsRead expression_of result read
 
 -- an argument as reading gives it
 abbrev pub item_of : Argument → Item

@@ -5,6 +5,7 @@ use Rattle.kern_grammar.specs.Plans.{Taken, Taker, ◌>>=◌, Plan, done, token,
 use Rattle.kern_grammar.specs.Reading.{choose}
 use Rattle.kern_expressions.specs.declared.read_end.ReadEnd.{ReadEnd}
 use Rattle.kern_expressions.specs.declared.read_end.ReadEnd.TheVariants as E
+use Rattle.kern_expressions.specs.declared.read_end.WrongToken.{WrongToken}
 use Rattle.kern_expressions.specs.declared.tokens.Tokens.{Tokens}
 
 -- the tokens that are left, with what they spell
@@ -21,10 +22,15 @@ abbrev pub GivesTaken : {X Y : Type 0} → (X → Y) → Result (X × Tokens) Re
 GivesTaken view (Ok x) taken = taken ≡ Ok (view x.0, lexemes_left x.1)
 GivesTaken view (Err end) taken = IsTakenEnd end taken
 
--- the tokens that a function gives are those behind what is taken
-abbrev pub GivesRest : Result Tokens ReadEnd → Taken (Unit {0}) → Type 0
-GivesRest (Ok rest) taken = taken ≡ Ok (tt, lexemes_left rest)
-GivesRest (Err end) taken = IsTakenEnd end taken
+-- of a function that keeps nothing they are that in any case, and an end is the first fault
+abbrev pub FindsTaken : {X Y : Type 0} → (X → Y) → Result (X × Tokens) WrongToken → Taken Y → Type 0
+FindsTaken view (Ok x) taken = taken ≡ Ok (view x.0, lexemes_left x.1)
+FindsTaken view (Err wrong) taken = taken ≡ Err (lexemes_left wrong.left)
+
+-- the tokens that such a function gives are those behind what is taken
+abbrev pub FindsRest : Result Tokens WrongToken → Taken (Unit {0}) → Type 0
+FindsRest (Ok rest) taken = taken ≡ Ok (tt, lexemes_left rest)
+FindsRest (Err wrong) taken = taken ≡ Err (lexemes_left wrong.left)
 
 -- a first token that is seen as something
 abbrev pub first_seen : {V : Type 0} → (view : Symbol → Option V) → Taker V

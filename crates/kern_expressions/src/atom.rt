@@ -4,13 +4,13 @@
 ghost use Rattle.std.specs.Prelude.{◌≡◌, ◌+◌, ◌-◌, suc, length, IfOk, IsTrue};
 ghost use Rattle.kern_lexer.specs.Names.{is_quotable};
 ghost use Rattle.kern_lexer.specs.Symbols.{bytes_at};
-ghost use Rattle.kern_expressions.specs.Given.{GivesExpression, GivesRead, item_of, symbols_left};
+ghost use Rattle.kern_expressions.specs.Given.{FindsExpression, FindsRead, GivesExpression, GivesRead, item_of, symbols_left};
 ghost use Rattle.kern_grammar.specs.Reading.{arguments, atom, bare_atom, behind_dot, behind_method, behind_name, closed, comma_or_close, enclosed, ended, is_close_bracket, is_close_parenthesis, item, items, value_item, inside_of};
 ghost use Rattle.kern_syntax.specs.Tree.{element, group};
 ghost use Rattle.kern_syntax.specs.TreeOf.{arguments_of, expression_of};
 
 use crate::expression::{LOOSEST, level_at};
-use crate::read_end::ReadEnd;
+use crate::read_end::{ReadEnd, WrongToken};
 use crate::tokens::Tokens;
 use kern_lexer::{Key, Sign, TokenKind};
 use kern_syntax::{Argument, Expr, Identifier};
@@ -36,29 +36,29 @@ pub fn identifier(alloc: Global, bytes: &[u8]) -> Result<Identifier, AllocError>
 }
 
 /// What is read up to a closing parenthesis.
-fn close_parenthesis<'a>(e: Expr, tokens: Tokens<'a>) -> Result<(Expr, Tokens<'a>), ReadEnd<'a>>
-    ensures { GivesExpression result
+fn close_parenthesis<'a>(e: Expr, tokens: Tokens<'a>) -> Result<(Expr, Tokens<'a>), WrongToken<'a>>
+    ensures { FindsExpression result
         (closed is_close_parenthesis (expression_of e) (symbols_left tokens.entry)) }
 {
     match tokens.list {
-        [] => Err(ReadEnd::Fault(tokens)),
+        [] => Err(WrongToken { left: tokens }),
         [first, ..] => match first.kind {
             TokenKind::Sign(Sign::CloseParenthesis) => Ok((e, tokens.tail())),
-            _ => Err(ReadEnd::Fault(tokens)),
+            _ => Err(WrongToken { left: tokens }),
         },
     }
 }
 
 /// What is read up to a closing bracket.
-fn close_bracket<'a>(e: Expr, tokens: Tokens<'a>) -> Result<(Expr, Tokens<'a>), ReadEnd<'a>>
-    ensures { GivesExpression result
+fn close_bracket<'a>(e: Expr, tokens: Tokens<'a>) -> Result<(Expr, Tokens<'a>), WrongToken<'a>>
+    ensures { FindsExpression result
         (closed is_close_bracket (expression_of e) (symbols_left tokens.entry)) }
 {
     match tokens.list {
-        [] => Err(ReadEnd::Fault(tokens)),
+        [] => Err(WrongToken { left: tokens }),
         [first, ..] => match first.kind {
             TokenKind::Sign(Sign::CloseBracket) => Ok((e, tokens.tail())),
-            _ => Err(ReadEnd::Fault(tokens)),
+            _ => Err(WrongToken { left: tokens }),
         },
     }
 }
@@ -72,18 +72,19 @@ pub fn atom_at<'a>(
 ) -> Result<(Expr, Tokens<'a>), ReadEnd<'a>>
     ensures { GivesExpression result (atom (inside_of room) (symbols_left tokens.entry)) }
 {
-    let (e, rest) = bare_atom_at(alloc, room, tokens)?;
-    ended_atom(e, rest)
+    let (e, behind) = bare_atom_at(alloc, room, tokens)?;
+    let (whole, rest) = ended_atom(e, behind)?;
+    Ok((whole, rest))
 }
 
-fn ended_atom<'a>(e: Expr, tokens: Tokens<'a>) -> Result<(Expr, Tokens<'a>), ReadEnd<'a>>
-    ensures { GivesExpression result (ended (expression_of e) (symbols_left tokens.entry)) }
+fn ended_atom<'a>(e: Expr, tokens: Tokens<'a>) -> Result<(Expr, Tokens<'a>), WrongToken<'a>>
+    ensures { FindsExpression result (ended (expression_of e) (symbols_left tokens.entry)) }
 {
     match tokens.list {
         [] => Ok((e, tokens)),
         [first, ..] => match first.kind {
             TokenKind::Sign(Sign::OpenParenthesis | Sign::OpenBracket | Sign::Dot) => {
-                Err(ReadEnd::Fault(tokens))
+                Err(WrongToken { left: tokens })
             }
             _ => Ok((e, tokens)),
         },
@@ -137,7 +138,8 @@ fn group_at<'a>(
     }
     let (e, behind) = level_at(alloc, room - 1, LOOSEST, tokens.tail())?;
     let group = grouped(alloc, e)?;
-    close_parenthesis(group, behind)
+    let (whole, rest) = close_parenthesis(group, behind)?;
+    Ok((whole, rest))
 }
 
 /// An element of an array, from the opening bracket of its index on.
@@ -156,7 +158,8 @@ fn element_at<'a>(
     }
     let (index, behind) = level_at(alloc, room - 1, LOOSEST, tokens.tail())?;
     let element = indexed(alloc, array, index)?;
-    close_bracket(element, behind)
+    let (whole, rest) = close_bracket(element, behind)?;
+    Ok((whole, rest))
 }
 
 /// A name with an index, with arguments, with a method, or alone, from what follows the name on.
@@ -237,18 +240,18 @@ fn called_method_at<'a>(
 }
 
 /// What stands behind an argument: a comma, so that another follows, or the closing parenthesis.
-fn comma_or_close<'a>(tokens: Tokens<'a>) -> Result<(bool, Tokens<'a>), ReadEnd<'a>>
-    ensures { GivesRead (λ more. more) result (comma_or_close (symbols_left tokens.entry)) }
+fn comma_or_close<'a>(tokens: Tokens<'a>) -> Result<(bool, Tokens<'a>), WrongToken<'a>>
+    ensures { FindsRead (λ more. more) result (comma_or_close (symbols_left tokens.entry)) }
 {
     match tokens.list {
-        [] => Err(ReadEnd::Fault(tokens)),
+        [] => Err(WrongToken { left: tokens }),
         [first, ..] => match first.kind {
             TokenKind::Sign(sign) => match sign {
                 Sign::Comma => Ok((true, tokens.tail())),
                 Sign::CloseParenthesis => Ok((false, tokens.tail())),
-                _ => Err(ReadEnd::Fault(tokens)),
+                _ => Err(WrongToken { left: tokens }),
             },
-            _ => Err(ReadEnd::Fault(tokens)),
+            _ => Err(WrongToken { left: tokens }),
         },
     }
 }

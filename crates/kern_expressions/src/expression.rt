@@ -4,7 +4,7 @@
 //! number of nestings that may still be opened.
 
 ghost use Rattle.std.specs.Prelude.{◌≡◌, ◌≤◌, ◌-◌, IfOk, OnOk};
-ghost use Rattle.kern_expressions.specs.Given.{GivesExpression, symbols_left};
+ghost use Rattle.kern_expressions.specs.Given.{FindsExpression, GivesExpression, symbols_left};
 ghost use Rattle.kern_expressions.specs.TakenBy.{GivesTaken, lexemes_left};
 ghost use Rattle.kern_grammar.specs.Operators.{join};
 ghost use Rattle.kern_grammar.specs.Reading.{comparison, end_of_comparison, inside_of, level_reader, not_at, prefixed, row, unary_at};
@@ -14,7 +14,7 @@ ghost use Rattle.kern_syntax.specs.TreeOf.{expression_of};
 
 use crate::atom::atom_at;
 use crate::operator::{begins_with_not, comparison_at, joiner_at, prefix_at};
-use crate::read_end::ReadEnd;
+use crate::read_end::{ReadEnd, WrongToken};
 use crate::tokens::Tokens;
 use kern_grammar::Joiner;
 use kern_syntax::{Comparison, Expr, UnaryOperator};
@@ -149,16 +149,17 @@ fn compared_at<'a>(
     };
     let (right, rest) = level_at(alloc, room, 7, behind.tail())?;
     let e = compared(alloc, op, left, right)?;
-    ended_comparison(e, rest)
+    let (whole, end) = ended_comparison(e, rest)?;
+    Ok((whole, end))
 }
 
 /// A comparison, unless another follows it.
-fn ended_comparison<'a>(e: Expr, tokens: Tokens<'a>) -> Result<(Expr, Tokens<'a>), ReadEnd<'a>>
-    ensures { GivesExpression result (end_of_comparison (expression_of e) (symbols_left tokens.entry)) }
+fn ended_comparison<'a>(e: Expr, tokens: Tokens<'a>) -> Result<(Expr, Tokens<'a>), WrongToken<'a>>
+    ensures { FindsExpression result (end_of_comparison (expression_of e) (symbols_left tokens.entry)) }
 {
     match comparison_at(tokens) {
         None => Ok((e, tokens)),
-        Some(_) => Err(ReadEnd::Fault(tokens)),
+        Some(_) => Err(WrongToken { left: tokens }),
     }
 }
 

@@ -18,6 +18,6 @@ pub use marks::{
     close_bracket_at, close_parenthesis_at, colon_at, dedent_at, def_at, dot_at, in_at, indent_at,
     line_end_at, open_parenthesis_at,
 };
-pub use read_end::ReadEnd;
+pub use read_end::{ReadEnd, WrongToken};
 pub use tokens::Tokens;
 pub use words::{name_at, type_at, word_at};

@@ -2,11 +2,11 @@
 
 ghost use Rattle.std.specs.Prelude.{◌≡◌, Some, None, if◌then◌else◌};
 ghost use Rattle.std.specs.Str.{bytes_eq};
-ghost use Rattle.kern_expressions.specs.TakenBy.{GivesRest, GivesTaken, first_seen, lexemes_left};
+ghost use Rattle.kern_expressions.specs.TakenBy.{FindsRest, FindsTaken, GivesTaken, first_seen, lexemes_left};
 ghost use Rattle.kern_grammar.specs.Views.{a_name, a_type, the_name, type_of_word};
 
 use crate::atom::identifier;
-use crate::read_end::ReadEnd;
+use crate::read_end::{ReadEnd, WrongToken};
 use crate::tokens::Tokens;
 use kern_lexer::TokenKind;
 use kern_syntax::{DeclaredType, Identifier};
@@ -32,20 +32,20 @@ pub fn name_at<'a>(
 }
 
 /// The name that is this word.
-pub fn word_at<'a>(word: &[u8], tokens: Tokens<'a>) -> Result<Tokens<'a>, ReadEnd<'a>>
-    ensures { GivesRest result (first_seen (the_name word.now) (lexemes_left tokens.entry)) }
+pub fn word_at<'a>(word: &[u8], tokens: Tokens<'a>) -> Result<Tokens<'a>, WrongToken<'a>>
+    ensures { FindsRest result (first_seen (the_name word.now) (lexemes_left tokens.entry)) }
 {
     match tokens.list {
-        [] => Err(ReadEnd::Fault(tokens)),
+        [] => Err(WrongToken { left: tokens }),
         [first, ..] => match first.kind {
             TokenKind::Name => {
                 if tokens.bytes_at(first.at as usize, first.len as usize) == word {
                     Ok(tokens.tail())
                 } else {
-                    Err(ReadEnd::Fault(tokens))
+                    Err(WrongToken { left: tokens })
                 }
             }
-            _ => Err(ReadEnd::Fault(tokens)),
+            _ => Err(WrongToken { left: tokens }),
         },
     }
 }
@@ -66,19 +66,19 @@ fn type_of_word(word: &[u8]) -> Option<DeclaredType>
 }
 
 /// The name of a type.
-pub fn type_at<'a>(tokens: Tokens<'a>) -> Result<(DeclaredType, Tokens<'a>), ReadEnd<'a>>
-    ensures { GivesTaken (λ declared. declared) result (first_seen a_type (lexemes_left tokens.entry)) }
+pub fn type_at<'a>(tokens: Tokens<'a>) -> Result<(DeclaredType, Tokens<'a>), WrongToken<'a>>
+    ensures { FindsTaken (λ declared. declared) result (first_seen a_type (lexemes_left tokens.entry)) }
 {
     match tokens.list {
-        [] => Err(ReadEnd::Fault(tokens)),
+        [] => Err(WrongToken { left: tokens }),
         [first, ..] => match first.kind {
             TokenKind::Name => {
                 match type_of_word(tokens.bytes_at(first.at as usize, first.len as usize)) {
                     Some(declared) => Ok((declared, tokens.tail())),
-                    None => Err(ReadEnd::Fault(tokens)),
+                    None => Err(WrongToken { left: tokens }),
                 }
             }
-            _ => Err(ReadEnd::Fault(tokens)),
+            _ => Err(WrongToken { left: tokens }),
         },
     }
 }

@@ -1,6 +1,1 @@
-mod BlockExits
-mod BlockTrees
-mod ManyLists
-mod Mapped
-mod Performed
-mod Sequenced
+mod Beginnings

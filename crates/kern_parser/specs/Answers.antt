@@ -1,5 +1,5 @@
 -- What the parser's answers say.
-use Rattle.std.specs.Prelude.{List}
+use Rattle.std.specs.Prelude.{◌≡◌, ℕ, List, Result, Ok, Err}
 use Rattle.kern_lexer.specs.Symbols.{Lexeme}
 use Rattle.kern_grammar.specs.Accepted.{IsFirstFault}
 use Rattle.kern_parser.specs.declared.parsing.SyntaxEnd.{SyntaxEnd}
@@ -14,3 +14,9 @@ EndsRightly tokens E.Memory = Unit {0}
 abbrev pub IsMemory : SyntaxEnd → Type 0
 IsMemory (E.Fault place) = ⊥
 IsMemory E.Memory = Unit {0}
+
+-- a result is the fault at this place, or want of memory
+abbrev pub RefusesAt : {X : Type 0} → (place : ℕ) → Result X SyntaxEnd → Type 0
+RefusesAt place (Ok x) = ⊥
+RefusesAt place (Err (E.Fault at)) = at ≡ place
+RefusesAt place (Err E.Memory) = Unit {0}

@@ -1,10 +1,26 @@
--- Parts of the plan of a function, each to its end.
-use Rattle.std.specs.Prelude.{ℕ, codes, ◌∷◌}
+-- For the proofs alone: parts of the plan of a function, each to its end, and what it begins with.
+use Rattle.std.specs.Prelude.{◌≡◌, ℕ, Bool, true, false, codes, ◌∷◌}
 use Rattle.kern_lexer.specs.Bytes.{Bytes}
+use Rattle.kern_lexer.specs.Symbols.{Symbol, key, sign}
+use Rattle.kern_lexer.specs.declared.token.Key.TheVariants as K
+use Rattle.kern_lexer.specs.declared.token.Sign.TheVariants as S
+use Rattle.kern_expressions.specs.declared.read_end.ReadEnd.{ReadEnd}
+use Rattle.kern_expressions.specs.declared.read_end.ReadEnd.TheVariants as R
 use Rattle.kern_syntax.specs.Tree.{FunctionTree, ParameterTree}
 use Rattle.kern_grammar.specs.BlockPlans.{def_plan, more_parameters, parameters_plan, result_plan}
 use Rattle.kern_grammar.specs.Plans.{Plan, peek, token}
 use Rattle.kern_grammar.specs.Views.{a_name, arrow_or_colon, close_parenthesis, def_key, is_seen, line_end, open_parenthesis, the_name}
+
+-- what a function may begin with: its decorator or its `def`
+abbrev pub opens_function : Symbol → Bool
+opens_function (sign S.At) = true
+opens_function (key K.Def) = true
+opens_function s = false
+
+-- where a reader wants memory, the tokens begin rightly
+abbrev pub NeedsBeginning : (begins : Bool) → ReadEnd → Type 0
+NeedsBeginning begins (R.Fault left) = Unit {0}
+NeedsBeginning begins R.Memory = begins ≡ true
 
 -- behind the sign of a decorator
 abbrev pub behind_at_plan : Plan FunctionTree

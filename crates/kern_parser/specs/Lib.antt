@@ -1,5 +1,2 @@
 pub mod Answers
-pub mod BlockSteps
 pub mod FunctionSteps
-pub mod Headers
-pub mod LineSteps

@@ -1,20 +1,20 @@
 //! Reading functions from the front of tokens.
 
-ghost use Rattle.std.specs.Prelude.{◌≡◌, ◌∷◌, false, true, map, IfOk};
+ghost use Rattle.std.specs.Prelude.{◌≡◌, ◌∷◌, false, true, map, IfErr, IfOk};
 ghost use Rattle.kern_grammar.specs.BlockPlans.{a_parameter, comma_parameter, def_plan, function_block, function_plan, is_comma, parameters_plan, result_plan};
-ghost use Rattle.kern_parser.specs.FunctionSteps.{behind_at_plan, defined_plan, further_plan, maybe_parameters_plan};
+ghost use Rattle.kern_parser.specs.FunctionSteps.{NeedsBeginning, behind_at_plan, defined_plan, further_plan, maybe_parameters_plan, opens_function};
 ghost use Rattle.kern_grammar.specs.Plans.{done, many, run, token};
-ghost use Rattle.kern_expressions.specs.TakenBy.{GivesTaken, lexemes_left, perform};
+ghost use Rattle.kern_expressions.specs.TakenBy.{GivesTaken, begins_with, lexemes_left, perform};
 ghost use Rattle.kern_grammar.specs.Views.{arrow_or_colon};
 ghost use Rattle.kern_syntax.specs.TreeOf.{function_of, parameter_of};
 
-use crate::block::block_at;
-use crate::simple::begins_with_comma;
+use kern_blocks::block_at;
 use kern_expressions::{
     ReadEnd, Tokens, close_parenthesis_at, colon_at, def_at, line_end_at, name_at,
     open_parenthesis_at, type_at, word_at,
 };
 use kern_lexer::{Sign, TokenKind};
+use kern_statements::begins_with_comma;
 use kern_syntax::{DeclaredType, Function, Identifier, Parameter, ParameterList};
 use std::alloc::{AllocError, Global};
 
@@ -26,7 +26,8 @@ pub fn function_at<'a>(
     alloc: Global,
     tokens: Tokens<'a>,
 ) -> Result<(Function, Tokens<'a>), ReadEnd<'a>>
-    ensures { GivesTaken function_of result (run function_plan (lexemes_left tokens.entry)) }
+    ensures taken { GivesTaken function_of result (run function_plan (lexemes_left tokens.entry)) }
+    ensures memory { IfErr result (NeedsBeginning (begins_with opens_function (lexemes_left tokens.entry))) }
 {
     decorated_at(alloc, tokens)
 }
@@ -36,7 +37,8 @@ fn decorated_at<'a>(
     alloc: Global,
     tokens: Tokens<'a>,
 ) -> Result<(Function, Tokens<'a>), ReadEnd<'a>>
-    ensures { GivesTaken function_of result (perform function_plan (lexemes_left tokens.entry)) }
+    ensures taken { GivesTaken function_of result (perform function_plan (lexemes_left tokens.entry)) }
+    ensures memory { IfErr result (NeedsBeginning (begins_with opens_function (lexemes_left tokens.entry))) }
 {
     match tokens.list {
         [] => Err(ReadEnd::Fault(tokens)),
@@ -67,7 +69,8 @@ fn definition_at<'a>(
     alloc: Global,
     tokens: Tokens<'a>,
 ) -> Result<(Function, Tokens<'a>), ReadEnd<'a>>
-    ensures { GivesTaken function_of result (perform def_plan (lexemes_left tokens.entry)) }
+    ensures taken { GivesTaken function_of result (perform def_plan (lexemes_left tokens.entry)) }
+    ensures memory { IfErr result (NeedsBeginning (begins_with opens_function (lexemes_left tokens.entry))) }
 {
     match tokens.list {
         [] => Err(ReadEnd::Fault(tokens)),
@@ -81,7 +84,8 @@ fn defined_at<'a>(
     line: u32,
     tokens: Tokens<'a>,
 ) -> Result<(Function, Tokens<'a>), ReadEnd<'a>>
-    ensures { GivesTaken function_of result (perform (defined_plan line) (lexemes_left tokens.entry)) }
+    ensures taken { GivesTaken function_of result (perform (defined_plan line) (lexemes_left tokens.entry)) }
+    ensures memory { IfErr result (NeedsBeginning (begins_with opens_function (lexemes_left tokens.entry))) }
 {
     let rest = def_at(tokens)?;
     let (name, rest) = name_at(alloc, rest)?;

@@ -1,15 +1,16 @@
 //! Reading the functions of a program and the End.
 
-ghost use Rattle.std.specs.Prelude.{◌≡◌, map};
+ghost use Rattle.std.specs.Prelude.{◌≡◌, map, IfErr};
 ghost use Rattle.kern_grammar.specs.BlockPlans.{function_plan, is_function, program_plan};
-ghost use Rattle.kern_parser.specs.BlockSteps.{and_more};
+ghost use Rattle.kern_blocks.specs.BlockSteps.{and_more};
+ghost use Rattle.kern_parser.specs.FunctionSteps.{NeedsBeginning, opens_function};
 ghost use Rattle.kern_grammar.specs.Plans.{many, run};
-ghost use Rattle.kern_expressions.specs.TakenBy.{GivesRest, GivesTaken, a_token, begins_with, lexemes_left, perform};
+ghost use Rattle.kern_expressions.specs.TakenBy.{FindsRest, GivesTaken, a_token, begins_with, lexemes_left, perform};
 ghost use Rattle.kern_grammar.specs.Views.{text_end};
 ghost use Rattle.kern_syntax.specs.TreeOf.{function_of, tree_of};
 
 use crate::function::function_at;
-use kern_expressions::{ReadEnd, Tokens};
+use kern_expressions::{ReadEnd, Tokens, WrongToken};
 use kern_lexer::TokenKind;
 use kern_syntax::{Function, Program};
 use std::alloc::Global;
@@ -19,7 +20,8 @@ pub fn program_at<'a>(
     alloc: Global,
     tokens: Tokens<'a>,
 ) -> Result<(Program, Tokens<'a>), ReadEnd<'a>>
-    ensures { GivesTaken tree_of result (run program_plan (lexemes_left tokens.entry)) }
+    ensures taken { GivesTaken tree_of result (run program_plan (lexemes_left tokens.entry)) }
+    ensures memory { IfErr result (NeedsBeginning (begins_with opens_function (lexemes_left tokens.entry))) }
 {
     let (first, rest) = function_at(alloc, tokens)?;
     let (functions, rest) = functions_at(alloc, first, rest)?;
@@ -58,14 +60,14 @@ fn functions_at<'a>(
 }
 
 /// The End.
-fn text_end_at<'a>(tokens: Tokens<'a>) -> Result<Tokens<'a>, ReadEnd<'a>>
-    ensures { GivesRest result (perform (a_token text_end) (lexemes_left tokens.entry)) }
+fn text_end_at<'a>(tokens: Tokens<'a>) -> Result<Tokens<'a>, WrongToken<'a>>
+    ensures { FindsRest result (perform (a_token text_end) (lexemes_left tokens.entry)) }
 {
     match tokens.list {
-        [] => Err(ReadEnd::Fault(tokens)),
+        [] => Err(WrongToken { left: tokens }),
         [first, ..] => match first.kind {
             TokenKind::End => Ok(tokens.tail()),
-            _ => Err(ReadEnd::Fault(tokens)),
+            _ => Err(WrongToken { left: tokens }),
         },
     }
 }

@@ -6,6 +6,7 @@ use Rattle.kern_syntax.specs.TreeOf.{expression_of}
 use Rattle.kern_lexer.specs.Symbols.{Symbol}
 use Rattle.kern_expressions.specs.Given.{GivesExpression, item_of, symbols_left}
 use Rattle.kern_grammar.specs.Reading.{level_reader, comparison, prefixed, row, items, is_close_bracket, is_close_parenthesis, first_form, prefix_form, unary_at, not_at, inside_of}
+use Rattle.kern_expressions.specs.declared.read_end.ReadEnd.TheVariants as E
 use Rattle.kern_expressions.proofs.ArgumentLists.{none_so_far, one_more, no_more_left, comma_end, item_end, next_shorter}
 use Rattle.kern_expressions.proofs.Exits.{given_end, enclosed_end, enclosed_ok, value_end, value_found, comparison_end, comparison_ok, prefixed_end, prefixed_ok, row_level, row_end, row_next}
 use Rattle.kern_grammar.proofs.SpelledLists.{first_quotable}
@@ -27,7 +28,13 @@ atom::element_at-returns-in_err-index t c =
 pub atom::element_at-returns : goal.atom::element_at-returns
 atom::element_at-returns t c =
     let same = enclosed_ok c.args.room is_close_bracket (element c.args.array) (symbols_left c.args.tokens) (symbols_left c.tail.result) (symbols_left c.in_ok-index.behind) (expression_of c.in_ok-index.index) (expression_of c.in_ok-element.element) c.if-room-eq0.false c.tail.ensures.symbols c.in_ok-index.ensures c.in_ok-element.ensures in
-    subst (GivesExpression c.close_bracket.result) same c.close_bracket.ensures
+    sym same ∙ c.in_ok-whole.ensures
+
+pub atom::element_at-returns-in_err-whole : goal.atom::element_at-returns-in_err-whole
+atom::element_at-returns-in_err-whole t c =
+    let p = err_from_is_err_and c.from_residual-in_err-whole.result c.from_residual-in_err-whole.ensures.1 in
+    let same = enclosed_ok c.args.room is_close_bracket (element c.args.array) (symbols_left c.args.tokens) (symbols_left c.tail.result) (symbols_left c.in_ok-index.behind) (expression_of c.in_ok-index.index) (expression_of c.in_ok-element.element) c.if-room-eq0.false c.tail.ensures.symbols c.in_ok-index.ensures c.in_ok-element.ensures in
+    rw (p.1, p.2) (sym same ∙ c.in_err-whole.ensures)
 
 pub atom::group_at-returns-in_err-e : goal.atom::group_at-returns-in_err-e
 atom::group_at-returns-in_err-e t c =
@@ -37,7 +44,13 @@ atom::group_at-returns-in_err-e t c =
 pub atom::group_at-returns : goal.atom::group_at-returns
 atom::group_at-returns t c =
     let same = enclosed_ok c.args.room is_close_parenthesis group (symbols_left c.args.tokens) (symbols_left c.tail.result) (symbols_left c.in_ok-e.behind) (expression_of c.in_ok-e.e) (expression_of c.in_ok-group.group) c.if-room-eq0.false c.tail.ensures.symbols c.in_ok-e.ensures c.in_ok-group.ensures in
-    subst (GivesExpression c.close_parenthesis.result) same c.close_parenthesis.ensures
+    sym same ∙ c.in_ok-whole.ensures
+
+pub atom::group_at-returns-in_err-whole : goal.atom::group_at-returns-in_err-whole
+atom::group_at-returns-in_err-whole t c =
+    let p = err_from_is_err_and c.from_residual-in_err-whole.result c.from_residual-in_err-whole.ensures.1 in
+    let same = enclosed_ok c.args.room is_close_parenthesis group (symbols_left c.args.tokens) (symbols_left c.tail.result) (symbols_left c.in_ok-e.behind) (expression_of c.in_ok-e.e) (expression_of c.in_ok-group.group) c.if-room-eq0.false c.tail.ensures.symbols c.in_ok-e.ensures c.in_ok-group.ensures in
+    rw (p.1, p.2) (sym same ∙ c.in_err-whole.ensures)
 
 pub atom::items_at-items-init : goal.atom::items_at-items-init
 atom::items_at-items-init t c = rw c.new-arguments.ensures.items (none_so_far (inside_of c.args.room) (symbols_left c.args.tokens))
@@ -50,7 +63,7 @@ atom::items_at-returns-in_err-argument t c =
 pub atom::items_at-returns-in_err-more : goal.atom::items_at-returns-in_err-more
 atom::items_at-returns-in_err-more t c =
     let p = err_from_is_err_and c.from_residual-in_err-more.result c.from_residual-in_err-more.ensures.1 in
-    rw (p.1, p.2) (comma_end (inside_of c.args.room) c.in_err-more.field-0.0 c.items.arguments.items (item_of c.in_ok-argument.argument) (symbols_left c.items.rest) (symbols_left c.in_ok-argument.behind) (items (inside_of c.args.room) (suc (length (symbols_left c.args.tokens))) (symbols_left c.args.tokens)) c.items.invariant c.in_ok-argument.ensures c.in_err-more.ensures)
+    rw (p.1, p.2) (comma_end (inside_of c.args.room) (E.Fault c.in_err-more.field-0.0.left) c.items.arguments.items (item_of c.in_ok-argument.argument) (symbols_left c.items.rest) (symbols_left c.in_ok-argument.behind) (items (inside_of c.args.room) (suc (length (symbols_left c.args.tokens))) (symbols_left c.args.tokens)) c.items.invariant c.in_ok-argument.ensures c.in_err-more.ensures)
 
 pub atom::items_at-returns-then-not-more : goal.atom::items_at-returns-then-not-more
 atom::items_at-returns-then-not-more t c =
@@ -82,7 +95,13 @@ expression::compared_at-returns-in_err-right t c =
 pub expression::compared_at-returns : goal.expression::compared_at-returns
 expression::compared_at-returns t c =
     let same = comparison_ok (level_reader (inside_of c.args.room) 7) (symbols_left c.args.tokens) (symbols_left c.in_ok-left.behind) (symbols_left c.tail.result) (symbols_left c.in_ok-right.rest) (expression_of c.in_ok-left.left) (expression_of c.in_ok-right.right) (expression_of c.in_ok-e.e) c.in-Some.op c.in_ok-left.ensures (sym c.comparison_at.ensures ∙ c.in-Some.is) c.tail.ensures.symbols c.in_ok-right.ensures c.in_ok-e.ensures in
-    subst (GivesExpression c.ended_comparison.result) same c.ended_comparison.ensures
+    sym same ∙ c.in_ok-whole.ensures
+
+pub expression::compared_at-returns-in_err-whole : goal.expression::compared_at-returns-in_err-whole
+expression::compared_at-returns-in_err-whole t c =
+    let p = err_from_is_err_and c.from_residual-in_err-whole.result c.from_residual-in_err-whole.ensures.1 in
+    let same = comparison_ok (level_reader (inside_of c.args.room) 7) (symbols_left c.args.tokens) (symbols_left c.in_ok-left.behind) (symbols_left c.tail.result) (symbols_left c.in_ok-right.rest) (expression_of c.in_ok-left.left) (expression_of c.in_ok-right.right) (expression_of c.in_ok-e.e) c.in-Some.op c.in_ok-left.ensures (sym c.comparison_at.ensures ∙ c.in-Some.is) c.tail.ensures.symbols c.in_ok-right.ensures c.in_ok-e.ensures in
+    given_end expression_of c.from_residual-in_err-whole.result (E.Fault c.in_err-whole.field-0.0.left) (comparison (level_reader (inside_of c.args.room) 7) (symbols_left c.args.tokens)) (p.1 ∙ ap (λ e. Err e) p.2) (sym same ∙ c.in_err-whole.ensures)
 
 pub expression::level_at-returns-in_default : goal.expression::level_at-returns-in_default
 expression::level_at-returns-in_default t c =

@@ -3,7 +3,7 @@ use Rattle.kern_syntax.specs.TreeOf.{parameter_of}
 use Rattle.kern_grammar.specs.Plans.{many, run}
 use Rattle.kern_grammar.specs.BlockPlans.{comma_parameter, is_comma}
 use Rattle.kern_expressions.specs.TakenBy.{lexemes_left}
-use Rattle.kern_parser.proofs.ManyLists.{with_first}
+use Rattle.kern_statements.proofs.ManyLists.{with_first}
 use Rattle.kern_parser.proofs.function.more_parameters_at.Given as goal
 
 abbrev pub invariant-items : goal.invariant-items

@@ -1,10 +1,10 @@
 use Rattle.std.proofs.Common.{◌≡◌, length, map}
 use Rattle.kern_syntax.specs.TreeOf.{function_of}
 use Rattle.kern_grammar.specs.BlockPlans.{function_plan, is_function}
-use Rattle.kern_parser.specs.BlockSteps.{and_more}
+use Rattle.kern_blocks.specs.BlockSteps.{and_more}
 use Rattle.kern_grammar.specs.Plans.{many, run}
 use Rattle.kern_expressions.specs.TakenBy.{lexemes_left}
-use Rattle.kern_parser.proofs.ManyLists.{with_first}
+use Rattle.kern_statements.proofs.ManyLists.{with_first}
 use Rattle.kern_parser.proofs.program.functions_at.Given as goal
 
 abbrev pub invariant-functions : goal.invariant-functions

@@ -1,0 +1,4 @@
+mod BlockExits
+mod BlockTrees
+mod Mapped
+mod Sequenced

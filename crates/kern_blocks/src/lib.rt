@@ -1,0 +1,7 @@
+//! Reading blocks, and the statements that have blocks.
+#![tactic(auto)]
+
+mod block;
+mod branches;
+
+pub use block::block_at;

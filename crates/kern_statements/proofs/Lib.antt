@@ -1,0 +1,2 @@
+pub mod ManyLists
+pub mod Performed

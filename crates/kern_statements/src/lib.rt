@@ -1,0 +1,8 @@
+//! Reading what stands on one line: simple statements, and the headers of blocks.
+#![tactic(auto)]
+
+mod headers;
+mod simple;
+
+pub use headers::{Bounds, WithItem, bounds_at, with_item_at};
+pub use simple::{begins_with_comma, simple_at};
