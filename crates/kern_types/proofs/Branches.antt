@@ -105,3 +105,15 @@ module _ (functions : Functions) (place : Place) where
   pub otherwise-then : (r : Result ⊤ TypeEnd) (left names after : Names) (branches : List Elif) (last : Option Block) → branches_verdict functions (branches_of branches None) place names ≡ well after → Leaves r left (branches_verdict functions (else_of (option_map block_of last)) place after) → Leaves r left (branches_verdict functions (branches_of branches last) place names)
   otherwise-then r left names after branches last front ends =
       leaves-same r left _ _ (sym (branches_verdict-else names branches last)) (leaves-then r left (branches_verdict functions (branches_of branches None) place names) after (λ names. branches_verdict functions (else_of (option_map block_of last)) place names) front ends)
+
+  -- a fault of a branch of an `if`
+  pub if-ended : (end : TypeEnd) (names one : Names) (condition : Expression) (body : Tree.Block) (branches : List Elif) (last : Option Block) → condition_verdict functions place names condition ≡ well tt → block_verdict functions body place names ≡ well one → IsEndOf end (branches_verdict functions (branches_of branches None) place one) → IsEndOf end (statement_verdict functions (if_then condition body (branches_of branches last)) place names)
+  if-ended end names one condition body branches last holds first ended =
+      let later : IsEndOf end (branches_verdict functions (branches_of branches last) place one) = otherwise-ended end one branches last ended in
+      subst (λ v. IsEndOf end (v >>= (λ a. block_verdict functions body place names >>= (λ after. branches_verdict functions (branches_of branches last) place after)))) (sym holds) (subst (λ v. IsEndOf end (v >>= (λ after. branches_verdict functions (branches_of branches last) place after))) (sym first) later)
+
+  -- what the `else` of an `if` leaves
+  pub if-then : (r : Result ⊤ TypeEnd) (left names one two : Names) (condition : Expression) (body : Tree.Block) (branches : List Elif) (last : Option Block) → condition_verdict functions place names condition ≡ well tt → block_verdict functions body place names ≡ well one → branches_verdict functions (branches_of branches None) place one ≡ well two → Leaves r left (branches_verdict functions (else_of (option_map block_of last)) place two) → Leaves r left (statement_verdict functions (if_then condition body (branches_of branches last)) place names)
+  if-then r left names one two condition body branches last holds first front ends =
+      let later : Leaves r left (branches_verdict functions (branches_of branches last) place one) = otherwise-then r left one two branches last front ends in
+      leaves-then r left (condition_verdict functions place names condition) tt (λ a. block_verdict functions body place names >>= (λ after. branches_verdict functions (branches_of branches last) place after)) holds (leaves-then r left (block_verdict functions body place names) one (λ after. branches_verdict functions (branches_of branches last) place after) first later)

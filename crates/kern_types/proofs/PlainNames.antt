@@ -2,10 +2,11 @@
 use Rattle.std.proofs.Common.{◌≡◌, Bool, true, false, ◌||◌, ◌&&◌, List, [], ◌∷◌, ◌++◌, Option, None, option_map, refl, sym, ap, ◌∙◌, bytes_eq}
 use Rattle.kern_syntax.specs.declared.statement.Elif.{Elif}
 use Rattle.kern_syntax.specs.declared.statement.Block.{Block}
-use Rattle.kern_syntax.specs.Tree.{Bytes, Otherwise, no_else, else_do, elif_then}
+use Rattle.kern_syntax.specs.Tree.{Bytes, Expression, Otherwise, no_else, else_do, elif_then, if_then}
+use Rattle.kern_syntax.specs.Tree
 use Rattle.kern_syntax.specs.TreeOf.{block_of, branches_of, elif_of, else_of}
 use Rattle.kern_expression_types.specs.Before.{is_in}
-use Rattle.kern_types.specs.Plain.{is_plain_otherwise, is_plain_expression, is_plain_block}
+use Rattle.kern_types.specs.Plain.{is_plain_otherwise, is_plain_expression, is_plain_block, is_plain_statement}
 use Rattle.kern_types.proofs.Branches.{with_end, IsOpen, elif-end, elif-open, branches_of-end, open-branches}
 
 or-false : (b : Bool) → (b || false) ≡ b
@@ -58,3 +59,17 @@ branch-plain plain branch rest whole is first =
 pub branch-live : (plain : List Bytes) (branch : Elif) (rest : Otherwise) (whole : Bool) → whole ≡ is_plain_otherwise plain (elif_of branch rest) → is_plain_otherwise plain (elif_of branch no_else) ≡ false → false ≡ whole
 branch-live plain branch rest whole is first =
     sym (is ∙ plain-first plain branch rest ∙ ap (λ b. b && is_plain_otherwise plain rest) first)
+
+-- the parts of an `if`
+pub if-plain : (plain : List Bytes) (condition : Expression) (body : Tree.Block) (branches : List Elif) (last : Option Block) → is_plain_statement plain (if_then condition body (branches_of branches last)) ≡ (is_plain_expression plain condition && (is_plain_block plain body && (is_plain_otherwise plain (branches_of branches None) && is_plain_otherwise plain (else_of (option_map block_of last)))))
+if-plain plain condition body branches last =
+    ap (λ b. is_plain_expression plain condition && (is_plain_block plain body && b)) (plain_else plain branches last)
+
+-- an `if` whose parts are known
+pub if-values : (plain : List Bytes) (condition : Expression) (body : Tree.Block) (branches : List Elif) (last : Option Block) (a b d e : Bool) → is_plain_expression plain condition ≡ a → is_plain_block plain body ≡ b → is_plain_otherwise plain (branches_of branches None) ≡ d → is_plain_otherwise plain (else_of (option_map block_of last)) ≡ e → is_plain_statement plain (if_then condition body (branches_of branches last)) ≡ (a && (b && (d && e)))
+if-values plain condition body branches last a b d e first second third fourth =
+    if-plain plain condition body branches last
+    ∙ ap (λ v. v && (is_plain_block plain body && (is_plain_otherwise plain (branches_of branches None) && is_plain_otherwise plain (else_of (option_map block_of last))))) first
+    ∙ ap (λ v. a && (v && (is_plain_otherwise plain (branches_of branches None) && is_plain_otherwise plain (else_of (option_map block_of last))))) second
+    ∙ ap (λ v. a && (b && (v && is_plain_otherwise plain (else_of (option_map block_of last))))) third
+    ∙ ap (λ v. a && (b && (d && v))) fourth

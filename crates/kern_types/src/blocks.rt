@@ -85,7 +85,8 @@ fn check_statement(
         StmtKind::If(condition, body, branches, last) => {
             check_condition(alloc, known, place, names, condition)?;
             check_block(alloc, known, place, names, body)?;
-            check_otherwise(alloc, known, place, names, branches, last)
+            check_branches(alloc, known, place, names, branches)?;
+            check_else(alloc, known, place, names, last)
         }
         StmtKind::While(condition, body) => {
             check_condition(alloc, known, place, names, condition)?;
@@ -119,22 +120,6 @@ fn check_statement(
         | StmtKind::ArrayRepeat(_, _, _)
         | StmtKind::ArrayList(_, _) => check_simple(alloc, known, place, names, statement),
     }
-}
-
-// The further branches of an `if`, and its `else` if it has one.
-#[cycle(blocks)]
-fn check_otherwise(
-    alloc: Global,
-    known: &Known<'_>,
-    place: Place,
-    names: &mut Locals,
-    branches: &[Elif],
-    last: &Option<Block>,
-) -> Result<(), TypeEnd>
-    ensures { Leaves result names.new (branches_verdict (functions_of known.now) (branches_of branches.now last.now) place names.old) }
-{
-    check_branches(alloc, known, place, names, branches)?;
-    check_else(alloc, known, place, names, last)
 }
 
 // The `elif` branches of an `if`.

@@ -148,7 +148,8 @@ fn is_plain_statement(plain: &NameList, own: &[u8], statement: &StmtKind) -> boo
         StmtKind::If(condition, body, branches, last) => {
             is_plain_expression(plain, own, condition)
                 && is_plain_block(plain, own, body)
-                && is_plain_otherwise(plain, own, branches, last)
+                && are_plain_branches(plain, own, branches)
+                && is_plain_else(plain, own, last)
         }
         StmtKind::While(condition, body) => {
             is_plain_expression(plain, own, condition) && is_plain_block(plain, own, body)
@@ -167,15 +168,6 @@ fn is_plain_statement(plain: &NameList, own: &[u8], statement: &StmtKind) -> boo
             is_plain_block(plain, own, body) && are_plain_handlers(plain, own, handlers)
         }
     }
-}
-
-// The further branches of an `if`, and its `else` if it has one.
-#[cycle(plain_blocks)]
-#[tactic(auto, using(crate::proofs::PlainNames::plain_else))]
-fn is_plain_otherwise(plain: &NameList, own: &[u8], branches: &[Elif], last: &Option<Block>) -> bool
-    ensures { result ≡ is_plain_otherwise (plain.now ++ own.now ∷ []) (branches_of branches.now last.now) }
-{
-    are_plain_branches(plain, own, branches) && is_plain_else(plain, own, last)
 }
 
 #[cycle(plain_blocks)]

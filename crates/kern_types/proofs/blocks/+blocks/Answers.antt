@@ -7,7 +7,7 @@ use Rattle.kern_expression_types.specs.Answers.{Leaves, IsEndOf}
 use Rattle.kern_expression_types.specs.KnownOf.{functions_of}
 use Rattle.kern_types.specs.Statements.{block_verdict, branches_verdict, inside_loop, loop_verdict, statement_verdict}
 use Rattle.kern_expression_types.specs.Verdicts.{well}
-use Rattle.kern_types.proofs.Branches.{leaves-same, leaves-then, branch-read, branch-ended, otherwise-ended, otherwise-then}
+use Rattle.kern_types.proofs.Branches.{leaves-same, leaves-then, branch-read, branch-ended, if-ended, if-then}
 use Rattle.kern_expression_types.proofs.Lists.{drop-item}
 use Rattle.kern_types.proofs.blocks.+blocks.Goals as goal
 
@@ -36,15 +36,35 @@ check_branches-loop-branch-preserved t c =
     let next : branches_of (drop i c.args.branches.now) None ≡ elif_of item rest = ap (λ branches. branches_of branches None) (drop-item c.args.branches.now i item c.loop-branch-test.true c.branch-item.is) in
     branch-read functions place names c.check_elif.new.names item rest _ (c.loop-branch.invariant ∙ ap (λ branches. branches_verdict functions branches place names) next) c.in_ok-check_elif.ensures
 
-pub check_otherwise-returns-in_err-check_branches : goal.check_otherwise-returns-in_err-check_branches
-check_otherwise-returns-in_err-check_branches t c =
-    let ended = otherwise-ended (functions_of c.args.known.now) c.args.place c.in_err-check_branches.field-0.0 c.args.names.now c.args.branches.now c.args.last.now c.in_err-check_branches.ensures in
-    let p = err_from_is_err_and c.from_residual.result c.from_residual.ensures.1 in
-    rw (p.1, p.2) ended
+pub check_statement-returns-in_err-check_branches-in-If :
+    goal.check_statement-returns-in_err-check_branches-in-If
+check_statement-returns-in_err-check_branches-in-If t c =
+    let arm = c.in-If in
+    let functions = functions_of c.args.known.now in
+    let place = c.args.place in
+    let names = c.args.names.now in
+    let one = c.check_block.new.names in
+    let end = c.in_err-check_branches-in-If.field-0.0 in
+    let tree : statement_of c.args.statement.now ≡ if_then (expression_of arm.condition) (block_of arm.body) (branches_of arm.branches.items arm.last) = search (rules, the_lemmas) in
+    let ended : IsEndOf end (branches_verdict functions (branches_of arm.branches.items None) place one) = subst (λ branches. IsEndOf end (branches_verdict functions (branches_of branches None) place one)) c.deref.ensures.value c.in_err-check_branches-in-If.ensures in
+    let whole : IsEndOf end (statement_verdict functions (statement_of c.args.statement.now) place names) = subst (λ s. IsEndOf end (statement_verdict functions s place names)) (sym tree) (if-ended functions place end names one (expression_of arm.condition) (block_of arm.body) arm.branches.items arm.last c.in_ok-check_condition-in-If.ensures c.in_ok-check_block-in-If.ensures ended) in
+    let p = err_from_is_err_and c.from_residual-in_err-check_branches-in-If.result c.from_residual-in_err-check_branches-in-If.ensures.1 in
+    rw (p.1, p.2) whole
 
-pub check_otherwise-returns-in_ok-check_branches : goal.check_otherwise-returns-in_ok-check_branches
-check_otherwise-returns-in_ok-check_branches t c =
-    otherwise-then (functions_of c.args.known.now) c.args.place c.check_else.result c.check_else.new.names c.args.names.now c.check_branches.new.names c.args.branches.now c.args.last.now c.in_ok-check_branches.ensures c.check_else.ensures
+pub check_statement-returns-in_ok-check_branches-in-If :
+    goal.check_statement-returns-in_ok-check_branches-in-If
+check_statement-returns-in_ok-check_branches-in-If t c =
+    let arm = c.in-If in
+    let functions = functions_of c.args.known.now in
+    let place = c.args.place in
+    let names = c.args.names.now in
+    let one = c.check_block.new.names in
+    let two = c.check_branches.new.names in
+    let r = c.check_else.result in
+    let left = c.check_else.new.names in
+    let tree : statement_of c.args.statement.now ≡ if_then (expression_of arm.condition) (block_of arm.body) (branches_of arm.branches.items arm.last) = search (rules, the_lemmas) in
+    let front : branches_verdict functions (branches_of arm.branches.items None) place one ≡ well two = ap (λ branches. branches_verdict functions (branches_of branches None) place one) (sym c.deref.ensures.value) ∙ c.in_ok-check_branches-in-If.ensures in
+    leaves-same r left _ _ (ap (λ s. statement_verdict functions s place names) (sym tree)) (if-then functions place r left names one two (expression_of arm.condition) (block_of arm.body) arm.branches.items arm.last c.in_ok-check_condition-in-If.ensures c.in_ok-check_block-in-If.ensures front c.check_else.ensures)
 
 pub check_statement-returns-in_ok-check_loop_to-in-ForTo :
     goal.check_statement-returns-in_ok-check_loop_to-in-ForTo

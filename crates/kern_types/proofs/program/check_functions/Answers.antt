@@ -2,7 +2,7 @@ use Rattle.std.proofs.Common.{◌≡◌, ◌+◌, [], IsTrue, Ok, length, take, 
 use Rattle.std.proofs.Math.ListN.{drop_of_length-le}
 use Rattle.std.proofs.lemmas.Result.{err_from_is_err_and}
 use Rattle.kern_syntax.specs.TreeOf.{function_of, tree_of}
-use Rattle.kern_expression_types.specs.Answers.{IsEndOf, Passes}
+use Rattle.kern_expression_types.specs.Answers.{IsEndOf}
 use Rattle.kern_expression_types.specs.Numbered.{numbered}
 use Rattle.kern_types.specs.Plain.{with_plain}
 use Rattle.kern_types.specs.Programs.{function_verdict, functions_verdict, main_verdict, program_verdict}
@@ -82,8 +82,8 @@ returns-in_err-check_main c =
     let p = err_from_is_err_and c.from_residual-in_err-check_main.result c.from_residual-in_err-check_main.ensures.1 in
     rw (p.1, p.2) (whole ∙ c.in_err-check_main.ensures)
 
-pub returns-in_ok-check_main : goal.returns-in_ok-check_main
-returns-in_ok-check_main c =
+pub returns : goal.returns
+returns c =
     let fs = c.args.functions.now in
     let i = c.loop-function.function-index in
     let all : drop i fs ≡ [] = drop_of_length-le fs c.loop-function-test.false in
