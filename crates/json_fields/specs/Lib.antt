@@ -1,0 +1,6 @@
+pub mod Answers
+pub mod Lists
+pub mod Objects
+pub mod Paths
+pub mod Readings
+pub mod Values
