@@ -1,11 +1,11 @@
-// Worked histories, told in words.
+// Worked histories of a core, told in words, and the copies of its plain data.
 
 mod driver;
 mod edges;
 mod outputs;
 mod recordings;
 
-use crate::{Config, StartOf};
+use rtio_core::{Config, StartOf};
 use rtio_types::{EdgeList, IntList};
 use std::test::Fail;
 

@@ -1,8 +1,7 @@
-// The calls that take memory, with enough of it. Longer histories are computed from the definitions in
-// `proofs/Examples.antt`.
+// The calls that take memory, with enough of it. Longer histories are told with the core.
 
-use crate::{Heads, Lanes, Place};
 use rtio_types::Event;
+use sed_lanes::{Heads, Lanes, Place};
 use std::test::Fail;
 
 #[test]

@@ -3,4 +3,14 @@
 #![tactic(auto)]
 
 #[cfg(test)]
+mod histories;
+#[cfg(test)]
+mod inputs;
+#[cfg(test)]
+mod lanes;
+#[cfg(test)]
+mod log;
+#[cfg(test)]
+mod recordings;
+#[cfg(test)]
 mod types;

@@ -1,6 +1,6 @@
 // A log with room for its lines.
 
-use crate::{Log, LogKind, LogLine};
+use rtio_log::{Log, LogKind, LogLine};
 use rtio_types::Event;
 use std::test::Fail;
 

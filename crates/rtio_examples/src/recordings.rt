@@ -3,7 +3,8 @@
 ghost use Rattle.std.specs.Prelude.{◌<◌, IfOk, IsTrue};
 ghost use Rattle.dma_store.specs.Kept.{is_playable};
 
-use crate::{DmaEnd, FetchEnd, HandleEnd, NoTrace, SaveEnd, Store, decode, encode};
+use self::Step::{Erase, Handle, Read, ReadHandle, Save};
+use dma_store::{DmaEnd, Store, decode, encode};
 use rtio_types::{Event, Name, Recording};
 use std::alloc::{AllocError, Global};
 use std::test::Fail;
@@ -42,37 +43,78 @@ const PULSE: [u8; 41] = [
     0, 0, 50, 0, 0, 0, 0, 0, 0, 0,
 ];
 
+// What is done with a store.
+#[derive(Clone, Copy)]
+enum Step {
+    // Saves the pulse.
+    Save(Name),
+    Handle(Name),
+    Read(Name),
+    ReadHandle(i64),
+    Erase(Name),
+}
+
+// Does the steps with a store, and tells what it answers.
+fn told(store: &mut Store, alloc: Global, steps: &[Step]) -> Result<String, Fail> {
+    let mut text = String::new(alloc);
+    for step in steps {
+        go(store, alloc, *step, &mut text)?;
+        text.push_str("; ")?;
+    }
+    Ok(text)
+}
+
+fn go(store: &mut Store, alloc: Global, step: Step, text: &mut String) -> Result<(), Fail> {
+    match step {
+        Step::Save(name) => {
+            let recording = pulse(alloc)?;
+            let answer = store.save(alloc, &name, &recording);
+            write!(text, "{answer:?}")?;
+        }
+        Step::Handle(name) => {
+            let answer = store.handle(&name);
+            write!(text, "{answer:?}")?;
+        }
+        Step::Read(name) => {
+            let answer = store.read(alloc, &name).map(|kept| is_pulse(&kept));
+            write!(text, "{answer:?}")?;
+        }
+        Step::ReadHandle(handle) => {
+            let answer = store.read_handle(alloc, handle).map(|kept| is_pulse(&kept));
+            write!(text, "{answer:?}")?;
+        }
+        Step::Erase(name) => {
+            let answer = store.erase(&name);
+            write!(text, "{answer:?}")?;
+        }
+    }
+    Ok(())
+}
+
 #[test]
 fn a_handle_is_old_after_an_erase(rt: HostRuntime) -> Result<(), Fail> {
     let alloc = rt.alloc();
     let name = Name::read(b"p").ok_or("no name")?;
-    let recording = pulse(alloc)?;
     let mut store = Store::new(alloc);
-    assert_eq!(rt; store.handle(&name), Err(NoTrace));
-    assert_eq!(rt; store.save(alloc, &name, &recording), Ok(()));
-    assert_eq!(rt; store.handle(&name), Ok(4096));
-    assert!(rt; store.read(alloc, &name).is_ok_and(|kept| is_pulse(&kept)));
-    assert!(rt;
-        store
-            .read_handle(alloc, 4096)
-            .is_ok_and(|kept| is_pulse(&kept))
-    );
+    let steps = [
+        Handle(name),
+        Save(name),
+        Handle(name),
+        Read(name),
+        ReadHandle(4096),
+        ReadHandle(4097),
+        ReadHandle(-1),
+        Erase(name),
+        ReadHandle(4096),
+        Read(name),
+        Handle(name),
+        Erase(name),
+    ];
+    let said = told(&mut store, alloc, &steps)?;
     assert_eq!(rt;
-        store.read_handle(alloc, 4097).err(),
-        Some(HandleEnd::OldHandle { epoch: 1 })
+        said.as_str(),
+        "Err(NoTrace); Ok(()); Ok(4096); Ok(true); Ok(true); Err(OldHandle { epoch: 1 }); Err(OldHandle { epoch: 1 }); Ok(()); Err(OldHandle { epoch: 2 }); Err(NoTrace); Err(NoTrace); Err(NoTrace); "
     );
-    assert_eq!(rt;
-        store.read_handle(alloc, -1).err(),
-        Some(HandleEnd::OldHandle { epoch: 1 })
-    );
-    assert_eq!(rt; store.erase(&name), Ok(()));
-    assert_eq!(rt;
-        store.read_handle(alloc, 4096).err(),
-        Some(HandleEnd::OldHandle { epoch: 2 })
-    );
-    assert_eq!(rt; store.read(alloc, &name).err(), Some(FetchEnd::NoTrace));
-    assert_eq!(rt; store.handle(&name), Err(NoTrace));
-    assert_eq!(rt; store.erase(&name), Err(NoTrace));
     Ok(())
 }
 
@@ -87,22 +129,30 @@ fn numbered(number: u16) -> Option<Name>
 #[test]
 fn a_kept_name_is_saved_when_4096_are_kept(rt: HostRuntime) -> Result<(), Fail> {
     let alloc = rt.alloc();
-    let recording = pulse(alloc)?;
     let mut store = Store::new(alloc);
     for number in 0..4096 {
         let name = numbered(number).ok_or("no name")?;
-        assert_eq!(rt; store.save(alloc, &name, &recording), Ok(()));
+        let said = told(&mut store, alloc, &[Save(name)])?;
+        assert_eq!(rt; said.as_str(), "Ok(()); ");
     }
     let new = Name::read(b"new").ok_or("no name")?;
     let first = numbered(0).ok_or("no name")?;
     let last = numbered(4095).ok_or("no name")?;
-    assert_eq!(rt; store.save(alloc, &new, &recording), Err(SaveEnd::Full));
-    assert_eq!(rt; store.save(alloc, &first, &recording), Ok(()));
-    assert_eq!(rt; store.handle(&first), Ok(4097 * 4096));
-    assert_eq!(rt; store.handle(&last), Ok(4097 * 4096 + 4095));
-    assert_eq!(rt; store.erase(&first), Ok(()));
-    assert_eq!(rt; store.save(alloc, &new, &recording), Ok(()));
-    assert_eq!(rt; store.handle(&new), Ok(4099 * 4096 + 4095));
+    let steps = [
+        Save(new),
+        Save(first),
+        Handle(first),
+        Handle(last),
+        Erase(first),
+        Save(new),
+        Handle(new),
+    ];
+    // The handles are 4,097 * 4,096, that and 4,095, and 4,099 * 4,096 + 4,095.
+    let said = told(&mut store, alloc, &steps)?;
+    assert_eq!(rt;
+        said.as_str(),
+        "Err(Full); Ok(()); Ok(16781312); Ok(16785407); Ok(()); Ok(()); Ok(16793599); "
+    );
     Ok(())
 }
 

@@ -29,8 +29,8 @@ fn a_cycle_has_8_mu(rt: HostRuntime) {
         let counted = if cycle < 0 { 0 } else { cycle as u64 };
         assert_eq!(rt; cycle_of(&event), counted, "of an event at {stamp}");
     }
-    for (counter, reads) in [(0, 0), (1, 8), (134217728, 1073741824)] {
-        assert_eq!(rt; reading(counter), reads, "of {counter}");
+    for (counter, reads) in [(0u32, 0), (1, 8), (134217728, 1073741824)] {
+        assert_eq!(rt; reading(u64::from(counter)), reads, "of {counter}");
     }
     for (moment, counter) in [(-9, 0), (0, 0), (1, 1), (8, 1), (9, 2)] {
         assert_eq!(rt; counter_reaching(moment), counter, "of {moment}");

@@ -1,6 +1,6 @@
 // What is done with a core, one thing after another, and what it answers, told in words.
 
-use crate::{Act, Ask, Config, Core, Entry, StartOf, Tick, config_ok};
+use rtio_core::{Act, Ask, Config, Core, Entry, StartOf, Tick, config_ok};
 use rtio_log::LogLine;
 use rtio_types::{
     Edge, EdgeList, Event, IntList, Name, Outcome, Recording, Reply, Request, Value, well_formed,
