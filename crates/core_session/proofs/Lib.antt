@@ -1,0 +1,11 @@
+mod AtTop
+mod Histories
+mod Scripted
+mod Stopping
+mod Processing
+mod Turning
+mod Ending
+mod Whole
+mod LockstepLaw
+mod Existing
+mod Rows
