@@ -11,7 +11,7 @@ use kern_calls::{builtin_named, method_of, object_named};
 use kern_expression_types::NameList;
 use kern_syntax::{Argument, Block, Elif, Expr, Function, Handler, StmtKind, Target};
 
-/// The plain functions after one more function, if it is plain; its own calls don't count.
+/// Whether a function is plain, given the plain ones before it; its own calls don't count.
 pub fn is_plain_function(plain: &NameList, function: &Function) -> bool
     ensures { result ≡ is_plain_function plain.now (function_of function.now) }
 {
