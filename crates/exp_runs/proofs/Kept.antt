@@ -1,14 +1,11 @@
 -- The parts of the runs that are kept.
-use Rattle.std.proofs.Common.{◌≡◌, ◌≢◌, ℕ, zero, suc, ◌+◌, ◌<◌, ◌≤◌, Bool, true, false, List, [], ◌∷◌, ◌++◌, length, map, get_or, replicate, refl, sym, ◌∙◌, ap, arith, subst, inl, inr}
-use Rattle.std.specs.Prelude.{Option, Some, None, slice_get, slice_index_or, slice_set, ◌⊎◌, ◌==◌, Result, Ok, Err, OnOk, OnErr}
-use Rattle.std.proofs.lemmas.Option.{slice_get-get_or, slice_get_within}
-use Rattle.std.proofs.lemmas.List.{get_or-map}
-use Rattle.std.proofs.lemmas.Bool.{eq-eqb}
+use Rattle.std.proofs.Common.{◌≡◌, ◌≢◌, ℕ, zero, suc, ◌<◌, true, false, List, [], ◌∷◌, ◌++◌, length, map, get_or, replicate, refl, sym, ◌∙◌, ap, arith, subst, inl, inr}
+use Rattle.std.specs.Prelude.{Some, slice_get, slice_index_or, slice_set, ◌⊎◌, ◌==◌, Result, Ok, Err, OnOk, OnErr}
+use Rattle.std.proofs.lemmas.Option.{slice_get-get_or}
 use Rattle.std.proofs.lemmas.Bool.Decides.{eqb_tells}
 use Rattle.exp_runs.specs.declared.queue.Queue.{Queue}
 use Rattle.exp_runs.specs.declared.run.Run.{Run}
-use Rattle.exp_runs.specs.Keys.{is_of}
-use Rattle.exp_runs.specs.Queues.{IsQueue, no_run}
+use Rattle.exp_runs.specs.Queues.{IsQueue}
 use Rattle.exp_runs.specs.Inside.{places_in, AreQueues}
 use Rattle.exp_runs.proofs.Places.{KeepsKeys, queue_after-map, queue_after-other}
 

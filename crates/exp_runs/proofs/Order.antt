@@ -1,16 +1,15 @@
 -- The first of the runs by key is the greatest.
-use Rattle.std.proofs.Common.{◌≡◌, ℕ, Bool, true, false, List, [], ◌∷◌, cond, filter, fold, map, refl, sym, ◌∙◌, ap, arith}
-use Rattle.std.specs.Prelude.{Option, Some, None, option_map, find, ◌==◌, ◌⊎◌}
-use Rattle.std.proofs.Common.{inl, inr}
+use Rattle.std.proofs.Common.{◌≡◌, ℕ, Bool, true, false, List, [], ◌∷◌, cond, filter, fold, refl, sym, ◌∙◌, ap}
+use Rattle.std.specs.Prelude.{Option, Some, None, option_map, find}
 use Rattle.std.specs.Cmp.{IsTotalOrder}
 use Rattle.std.specs.List.{AllByRecursion}
 use Rattle.std.specs.declared.cmp.Ordering.{Ordering}
 use Rattle.std.specs.declared.cmp.Ordering.TheVariants.{Less, Equal, Greater}
-use Rattle.std.specs.Ordering.{is_lt, nat_cmp, int_cmp, ordering_reverse}
+use Rattle.std.specs.Ordering.{is_lt, ordering_reverse}
 use Rattle.std.proofs.lemmas.Cmp.{on_total, then_total, back_total, nat_cmp_total, int_cmp_total}
 use Rattle.exp_runs.specs.declared.run.Run.{Run}
-use Rattle.exp_runs.specs.Keys.{key_cmp, greater, greatest, best, is_of}
-use Rattle.exp_runs.specs.Queues.{inserted, by_key, queue_of}
+use Rattle.exp_runs.specs.Keys.{key_cmp, greater, best, is_of}
+use Rattle.exp_runs.specs.Queues.{inserted, queue_of}
 
 pub keys_total : IsTotalOrder key_cmp
 keys_total =

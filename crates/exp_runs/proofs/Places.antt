@@ -1,9 +1,8 @@
 -- Queues as runs change and are added.
 use Rattle.std.proofs.Common.{◌≡◌, ℕ, ◌+◌, ◌<◌, ◌≤◌, zero, suc, Bool, true, false, List, [], ◌∷◌, ◌++◌, cond, filter, fold, map, length, take, drop, get_or, refl, sym, ◌∙◌, ap, arith, subst}
-use Rattle.std.specs.Prelude.{Option, Some, None, option_map, find, ◌==◌, slice_index_or, slice_get}
-use Rattle.std.specs.List.{AllByRecursion}
+use Rattle.std.specs.Prelude.{◌==◌, slice_index_or}
 use Rattle.std.specs.Ordering.{is_lt}
-use Rattle.std.proofs.lemmas.List.{length-map, map-append, get_or-map, get_or_append_left, take-map, drop-map, take-append-drop, length-append}
+use Rattle.std.proofs.lemmas.List.{length-map, map-append, get_or-map, get_or_append_left, length-append}
 use Rattle.std.proofs.Common.{add-one, drop-cons}
 use Rattle.std.proofs.Math.Seq.{get_or-append_seam}
 use Rattle.std.proofs.lemmas.List.Elements.{filter-append}
@@ -11,7 +10,7 @@ use Rattle.std.proofs.lemmas.List.Sums.{fold-append}
 use Rattle.exp_runs.specs.declared.run.Run.{Run}
 use Rattle.exp_runs.specs.declared.run.Status.{Status}
 use Rattle.exp_runs.specs.Keys.{key_cmp, is_of}
-use Rattle.exp_runs.specs.Table.{changed, with_status, with_fields}
+use Rattle.exp_runs.specs.Table.{with_status, with_fields}
 use Rattle.exp_runs.specs.Queues.{inserted, by_key, queue_of, no_run, at_places, AreBelow, IsQueue}
 
 -- a change that leaves the keys and the pipelines of runs

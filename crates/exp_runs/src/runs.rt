@@ -3,6 +3,7 @@
 ghost use Rattle.std.specs.Prelude.{◌≡◌, ◌<◌, Ok, IfOk, OnOk, OnErr, IfErr, IsSome, None, option_copied, length, replicate, [], ◌==◌, if◌then◌else◌};
 ghost use Rattle.exp_runs.specs.Keys.{best, can_prepare, can_run, can_analyze, is_higher, run_of, some_higher};
 ghost use Rattle.exp_runs.specs.Inside.{places_in};
+ghost use Rattle.exp_runs.specs.Queues.{wants};
 ghost use Rattle.std.specs.List.{list_any};
 ghost use Rattle.exp_runs.specs.Table.{no_runs, changed, with_status, with_fields, added, in_table};
 
@@ -122,29 +123,33 @@ impl Runs {
     /// The run of this pipeline that is to be prepared next at this clock: of those that wait with a due date that is reached,
     /// the one of greatest key. None exactly where there is none.
     pub fn best_pending(&self, pipeline: u32, clock: u64) -> Option<u64>
-        requires { pipeline < self.now.pipelines }
         ensures { result ≡ best (can_prepare pipeline clock) self.now.runs }
     {
-        let queue = &self.queues[pipeline as usize];
-        best_in(&self.runs, queue, pipeline, Wanted::ToPrepare { clock })
+        self.best_of(pipeline, Wanted::ToPrepare { clock })
     }
 
     /// The prepared run of this pipeline of greatest key; None exactly where there is none.
     pub fn best_prepared(&self, pipeline: u32) -> Option<u64>
-        requires { pipeline < self.now.pipelines }
         ensures { result ≡ best (can_run pipeline) self.now.runs }
     {
-        let queue = &self.queues[pipeline as usize];
-        best_in(&self.runs, queue, pipeline, Wanted::ToRun)
+        self.best_of(pipeline, Wanted::ToRun)
     }
 
     /// The run of this pipeline of greatest key among those whose steps are done; None exactly where there is none.
     pub fn best_done(&self, pipeline: u32) -> Option<u64>
-        requires { pipeline < self.now.pipelines }
         ensures { result ≡ best (can_analyze pipeline) self.now.runs }
     {
-        let queue = &self.queues[pipeline as usize];
-        best_in(&self.runs, queue, pipeline, Wanted::ToAnalyze)
+        self.best_of(pipeline, Wanted::ToAnalyze)
+    }
+
+    // The best run that the pipeline looks for.
+    fn best_of(&self, pipeline: u32, wanted: Wanted) -> Option<u64>
+        ensures { result ≡ best (wants pipeline wanted) self.now.runs }
+    {
+        match self.queues.get(pipeline as usize) {
+            Some(queue) => best_in(&self.runs, queue, pipeline, wanted),
+            None => None,
+        }
     }
 }
 
@@ -162,7 +167,7 @@ fn empty_queues(alloc: Global, count: u32) -> Result<Vec<Queue>, AllocError>
     Ok(queues)
 }
 
-fn restated(run: Run, rid: u64, status: Status) -> Run
+fn run_with_status(run: Run, rid: u64, status: Status) -> Run
     ensures { result ≡ (if run.rid == rid then with_status status run else run) }
 {
     if run.rid == rid {
@@ -176,11 +181,11 @@ fn change_status(runs: &mut [Run], rid: u64, status: Status)
     ensures { runs.new ≡ changed (with_status status) rid runs.old }
 {
     for run in runs.iter_mut() {
-        *run = restated(*run, rid, status);
+        *run = run_with_status(*run, rid, status);
     }
 }
 
-fn reordered(run: Run, rid: u64, pos: u32, terminate: bool, doomed: bool) -> Run
+fn run_with_fields(run: Run, rid: u64, pos: u32, terminate: bool, doomed: bool) -> Run
     ensures { result ≡ (if run.rid == rid then with_fields pos terminate doomed run else run) }
 {
     if run.rid == rid {
@@ -199,7 +204,7 @@ fn change_fields(runs: &mut [Run], rid: u64, pos: u32, terminate: bool, doomed: 
     ensures { runs.new ≡ changed (with_fields pos terminate doomed) rid runs.old }
 {
     for run in runs.iter_mut() {
-        *run = reordered(*run, rid, pos, terminate, doomed);
+        *run = run_with_fields(*run, rid, pos, terminate, doomed);
     }
 }
 

@@ -4,7 +4,7 @@ use Rattle.exp_runs.specs.declared.run.Run.{Run}
 use Rattle.exp_runs.specs.Keys.{is_of}
 use Rattle.std.specs.Prelude.{not}
 use Rattle.std.specs.Result.{is_ok}
-use Rattle.exp_runs.specs.Queues.{IsQueue, inserted, at_places}
+use Rattle.exp_runs.specs.Queues.{inserted, at_places}
 use Rattle.exp_runs.proofs.Places.{queue_after-own}
 use Rattle.exp_runs.proofs.queue.add_to.Goals as goal
 
