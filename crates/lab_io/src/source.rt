@@ -128,6 +128,3 @@ fn next_room(rest: u64) -> usize
         PIECE
     }
 }
-
-#[cfg(test)]
-mod tests;

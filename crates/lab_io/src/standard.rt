@@ -144,6 +144,3 @@ fn write_uninterrupted<W: Write>(writer: &mut W, bytes: &[u8]) -> io::Result<usi
     }
     Err(ErrorKind::Interrupted.into())
 }
-
-#[cfg(test)]
-mod tests;

@@ -1,8 +1,8 @@
 // The adapters over a stream that answers as told, and over bytes in memory.
 ghost use Rattle.std.specs.Prelude.{◌≤◌, IfOk};
 
-use super::*;
-use crate::{read_all, write_all};
+use lab_io::{Failed, Sink, Source, StdSink, StdSource, read_all, write_all};
+use std::io::{self, ErrorKind, Read, Write};
 use std::test::Fail;
 
 #[derive(Clone, Copy)]
@@ -51,7 +51,7 @@ impl Write for Scripted<'_> {
 }
 
 #[test]
-fn a_source_counts_each_error_but_interruptions(rt: HostRuntime) {
+fn a_source_fails_at_each_error_but_interruptions(rt: HostRuntime) {
     let turns = [
         Turn::Moves(9),
         Turn::Interrupted,
@@ -63,23 +63,14 @@ fn a_source_counts_each_error_but_interruptions(rt: HostRuntime) {
     ];
     let mut source = StdSource::new(Scripted { turns: &turns });
     let mut buf = [0; 8];
-    for (call, (answer, faults)) in [
-        (Ok(8), 0),
-        (Ok(3), 0),
-        (Err(Failed), 1),
-        (Err(Failed), 2),
-        (Ok(0), 2),
-    ]
-    .into_iter()
-    .enumerate()
-    {
+    let answers = [Ok(8), Ok(3), Err(Failed), Err(Failed), Ok(0)];
+    for (call, answer) in answers.into_iter().enumerate() {
         assert_eq!(rt; source.read(&mut buf), answer, "call {call}");
-        assert_eq!(rt; source.faults, faults, "call {call}");
     }
 }
 
 #[test]
-fn a_sink_counts_each_error_and_each_write_of_nothing(rt: HostRuntime) {
+fn a_sink_fails_at_each_error_and_each_write_of_nothing(rt: HostRuntime) {
     let turns = [
         Turn::Moves(2),
         Turn::Interrupted,
@@ -88,15 +79,11 @@ fn a_sink_counts_each_error_and_each_write_of_nothing(rt: HostRuntime) {
         Turn::Moves(0),
     ];
     let mut sink = StdSink::new(Scripted { turns: &turns });
-    for (call, (answer, faults)) in [(Ok(2), 0), (Ok(4), 0), (Err(Failed), 1), (Err(Failed), 2)]
-        .into_iter()
-        .enumerate()
-    {
+    let answers = [Ok(2), Ok(4), Err(Failed), Err(Failed)];
+    for (call, answer) in answers.into_iter().enumerate() {
         assert_eq!(rt; sink.write(b"text"), answer, "call {call}");
-        assert_eq!(rt; sink.faults, faults, "call {call}");
     }
     assert_eq!(rt; sink.write(b""), Ok(0));
-    assert_eq!(rt; sink.faults, 2);
 }
 
 #[test]

@@ -1,6 +1,5 @@
 // Writing to pages.
-use super::*;
-use crate::Page;
+use lab_io::{Failed, Page, Sink, write_all};
 use std::test::Fail;
 
 const TEXT: &[u8] = b"end ok / cursor 1500";

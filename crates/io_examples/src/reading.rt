@@ -1,6 +1,6 @@
 // Reading tapes to their ends.
-use super::*;
-use crate::Tape;
+use lab_io::{ReadEnd, Tape, read_all};
+use std::alloc::{AllocError, Global};
 use std::test::Fail;
 
 fn text(alloc: Global, len: usize) -> Result<Vec<u8>, AllocError> {
