@@ -1,5 +1,5 @@
 -- A list of tokens has at most one first fault, at one of its tokens, and none beside a tree.
-use Rattle.std.proofs.Common.{◌≡◌, ℕ, suc, ◌<◌, ◌≤◌, List, ◌++◌, Bool, true, false, refl, sym, ◌∙◌, ap, subst, arith, append_assoc, length, take, drop, nat_lt}
+use Rattle.std.proofs.Common.{◌≡◌, ℕ, suc, ◌<◌, ◌≤◌, List, ◌++◌, Bool, true, false, refl, sym, ◌∙◌, subst, arith, append_assoc, length, take, drop, nat_lt}
 use Rattle.std.proofs.lemmas.List.{take-append-drop, take_all, take-take}
 use Rattle.kern_lexer.specs.Symbols.{Lexeme}
 use Rattle.kern_syntax.specs.Tree.{ProgramTree}
