@@ -1,0 +1,4 @@
+pub mod Examples
+pub mod Lengths
+pub mod SmallKernels
+pub mod StatementLengths

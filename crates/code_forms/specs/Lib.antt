@@ -1,0 +1,10 @@
+pub mod ExpressionCode
+pub mod Laws
+pub mod Lines
+pub mod Operations
+pub mod Programs
+pub mod Setting
+pub mod Sizes
+pub mod StatementCode
+pub mod Suited
+pub mod Texts

@@ -1,0 +1,6 @@
+//! The code of a kernel text as a function of its tree: the instructions of each part with their marks, and how many there are.
+#![tactic(auto)]
+
+mod laws;
+
+pub use laws::code_has_its_size;
