@@ -1,0 +1,5 @@
+pub mod Functions
+pub mod Laws
+pub mod Lawful
+pub mod Parts
+pub mod Stands

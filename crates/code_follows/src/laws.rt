@@ -1,0 +1,24 @@
+// What holds of parts whose code does what they mean.
+
+ghost use Rattle.std.specs.Prelude.{List};
+ghost use Rattle.rtio_types.specs.declared.request.Reply.{Reply};
+ghost use Rattle.core_isa.specs.declared.code.Code.{Code};
+ghost use Rattle.code_follows.specs.Laws.{BodiesRunAsMeant, CallsFollow, PartsFollowOneAnother};
+
+/// Where the code of two parts stands one behind the other, and each does what its part means, the whole does what both mean:
+/// the value goes from the first to the second, and an early end of either is one of both.
+pub fn parts_follow_one_another()
+    ensures { (given : List Reply) (code : Code) → PartsFollowOneAnother given code }
+{}
+
+/// A call does what the function's body means, and its early ends, where the body's code does what the body means: a unit is
+/// taken, the arguments become the first names, and the caller has its own names back.
+pub fn calls_follow()
+    ensures { (given : List Reply) (code : Code) → CallsFollow given code }
+{}
+
+/// A run of a function asks the same requests as its meaning, and ends so, at the same cursor and with the same units left,
+/// where the code of its body does what the body means.
+pub fn bodies_run_as_meant()
+    ensures { (given : List Reply) (code : Code) → BodiesRunAsMeant given code }
+{}
