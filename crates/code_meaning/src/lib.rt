@@ -1,0 +1,6 @@
+//! The theorem of the compiler: the code of a kernel text does what the text means.
+#![tactic(auto)]
+
+mod laws;
+
+pub use laws::code_does_what_the_program_means;
