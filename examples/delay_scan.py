@@ -1,6 +1,6 @@
 # A scan of three delays, with loops, functions, a parallel block, arrays and a counted input
 # window. `check` accepts it and writes its canonical text; `sim` runs straight programs alone, and
-# refuses it with `form 7`.
+# refuses it with `form 7`. Its report is the canonical text.
 
 # Light on one of two channels for so long. The cursor ends where the light does.
 @kernel

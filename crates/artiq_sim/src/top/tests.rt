@@ -117,6 +117,55 @@ fn expect_report(
     Ok(())
 }
 
+// The kernels of `examples/`, each with the report that stands beside it.
+#[test]
+fn each_example_gives_its_report(rt: HostRuntime) -> Result<(), Fail> {
+    let cases = [
+        // too_late
+        (
+            "sim",
+            6,
+            "# The trap that everybody meets: the first output has no moment. The cursor begins at 0, and the counter stands in cycle 0,\n# the stamps up to 7. So the output comes too late: RTIOUnderflow, status 6, and nothing is put out. An `at_mu(1000)` before\n# it mends that; 8 is the first stamp that can be put out.\ndef main():\n    ttl0.on()\n    delay_mu(1000)\n    ttl0.off()\n",
+            "lanes 0 0 0 0 0 0 0 0\nend raised RTIOUnderflow\ncursor 0\ncounter 0\n",
+        ),
+        // pair_of_pulses
+        (
+            "sim",
+            0,
+            "# ttl0 goes up at 1000 mu and down at 1500 mu.\ndef main():\n    at_mu(1000)\n    ttl0.on()\n    delay_mu(500)\n    ttl0.off()\n",
+            "out 1000 0 0 1\nout 1500 0 0 0\nlanes 2 0 0 0 0 0 0 0\nend ok\ncursor 1500\ncounter 1496\n",
+        ),
+        // shelving_sequence
+        (
+            "sim",
+            0,
+            "# Cooling light for 2 ms, a repump pulse, a shelving pulse and a detection window of 400 us, one\n# after another with gaps, 125 us after the start.\ndef main():\n    at_mu(125000)\n    ttl0.on()\n    delay_mu(2000000)\n    ttl0.off()\n    delay_mu(1000)\n    ttl1.on()\n    delay_mu(12500)\n    ttl1.off()\n    delay_mu(500)\n    ttl2.on()\n    delay_mu(10000)\n    ttl2.off()\n    delay_mu(1000)\n    ttl3.on()\n    delay_mu(400000)\n    ttl3.off()\n",
+            "out 125000 0 0 1\nout 2125000 0 0 0\nout 2126000 1 0 1\nout 2138500 1 0 0\nout 2139000 2 0 1\nout 2149000 2 0 0\nout 2150000 3 0 1\nout 2550000 3 0 0\nlanes 8 0 0 0 0 0 0 0\nend ok\ncursor 2550000\ncounter 2550000\n",
+        ),
+        // collisions
+        (
+            "sim",
+            0,
+            "# What becomes of outputs of one cycle. ttl0: the second one replaces the first. ttl1: the second one has another stamp, and\n# collides. raw0: nothing is replaced, so the second one collides. Last, the ninth output of a cycle finds no lane, and is\n# out of sequence.\ndef main():\n    at_mu(1000)\n    ttl0.off()\n    ttl0.on()\n    at_mu(2000)\n    ttl1.on()\n    delay_mu(1)\n    ttl1.off()\n    at_mu(3000)\n    raw0.on()\n    raw0.off()\n    at_mu(4000)\n    ttl0.off()\n    ttl1.off()\n    ttl2.on()\n    ttl3.on()\n    ttl4.on()\n    ttl5.on()\n    ttl6.on()\n    ttl7.on()\n    ttl8.on()\n",
+            "out 1000 0 0 1\nout 2000 1 0 1\nout 3000 16 0 1\nout 4000 0 0 0\nout 4000 1 0 0\nout 4000 2 0 1\nout 4000 3 0 1\nout 4000 4 0 1\nout 4000 5 0 1\nout 4000 6 0 1\nout 4000 7 0 1\nseq 14 4000 8\ncol 3 2001 1\ncol 5 3000 16\nlanes 2 3 3 2 1 1 1 1\nend ok\ncursor 4000\ncounter 4000\n",
+        ),
+        // delay_scan
+        (
+            "check",
+            0,
+            "# A scan of three delays, with loops, functions, a parallel block, arrays and a counted input\n# window. `check` accepts it and writes its canonical text; `sim` runs straight programs alone, and\n# refuses it with `form 7`. Its report is the canonical text.\n\n# Light on one of two channels for so long. The cursor ends where the light does.\n@kernel\ndef light(on_first: bool, length: int64):\n    if on_first:\n        ttl0.pulse_mu(length)\n    else:\n        ttl1.pulse_mu(length)\n\n# Whether so many photons mean a bright ion.\n@kernel\ndef is_bright(photons: int32) -> bool:\n    return photons > 4\n\n@kernel\ndef main():\n    bright = [0] * 3\n    delays = [1_000, 2_000, 4_000]\n    core.break_realtime()\n    for shot in range(100):\n        for place in range(len(delays)):\n            with parallel:\n                light(True, 800)\n                light(False, 1_200)\n            delay_mu(delays[place])\n            ttl2.pulse_mu(0x190)\n            end = in0.gate_rising_mu(400_000)\n            if is_bright(in0.count(end)):\n                bright[place] += 1\n    set_dataset(\"bright\", bright)\n",
+            "def light(on_first: bool, length: int64):\n    if on_first:\n        ttl0.pulse_mu(length)\n    else:\n        ttl1.pulse_mu(length)\ndef is_bright(photons: int32) -> bool:\n    return photons > 4\ndef main():\n    bright = [0] * 3\n    delays = [1000, 2000, 4000]\n    core.break_realtime()\n    for shot in range(100):\n        for place in range(len(delays)):\n            with parallel:\n                light(True, 800)\n                light(False, 1200)\n            delay_mu(delays[place])\n            ttl2.pulse_mu(400)\n            end = in0.gate_rising_mu(400000)\n            if is_bright(in0.count(end)):\n                bright[place] += 1\n    set_dataset(\"bright\", bright)\n",
+        ),
+    ];
+    for (command, status, text, report) in cases {
+        let left = of_text(rt.alloc(), command, text)?;
+        assert_eq!(rt; left.status, status, "{text}");
+        assert_eq!(rt; left.out.as_slice(), report.as_bytes(), "{text}");
+        assert_eq!(rt; left.err.len(), 0, "{text}");
+    }
+    Ok(())
+}
+
 #[test]
 fn events_that_are_not_put_out_are_told(rt: HostRuntime) -> Result<(), Fail> {
     let cases = [

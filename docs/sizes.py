@@ -1,0 +1,38 @@
+#!/usr/bin/env python3
+"""Prints how large each crate is: lines of code, of its tests, of definitions and of proofs, and the number of its must-fail
+edits. Lines that are empty don't count.
+
+    python3 docs/sizes.py
+"""
+import pathlib
+
+ROOT = pathlib.Path(__file__).resolve().parent.parent
+
+
+def lines(files):
+    return sum(1 for file in files for line in file.read_text().splitlines() if line.strip())
+
+
+def of_crate(name):
+    crate = ROOT / "crates" / name
+    code = list(crate.glob("src/**/*.rt"))
+    tests = [file for file in code if "tests" in (file.stem, file.parent.name)]
+    return [
+        lines(set(code) - set(tests)),
+        lines(tests),
+        lines(crate.glob("specs/*.antt")),
+        lines(crate.glob("proofs/**/*.antt")),
+        len(list(crate.glob("must-fail/*.edit"))),
+    ]
+
+
+def main():
+    names = [line.split(":")[0].split()[0] for line in (ROOT / "crates.txt").read_text().splitlines() if line[:1] not in ("", "#")]
+    rows = [(name, of_crate(name)) for name in names]
+    rows.append(("all", [sum(column) for column in zip(*(row for _, row in rows))]))
+    print(f"{'crate':22}{'code':>9}{'tests':>9}{'specs':>9}{'proofs':>9}{'edits':>9}")
+    for name, row in rows:
+        print(f"{name:22}" + "".join(f"{number:9}" for number in row))
+
+
+main()
