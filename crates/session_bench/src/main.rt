@@ -1,4 +1,5 @@
-//! Reads sessions from files, each so many times, and says of each what it has, or the line that refuses it.
+//! Reads sessions from files, each so many times, and says of each what it has, or the line that refuses it. In a file
+//! whose name ends with `.tsv` each line has a remark, a tab and a session of its own, and its answer follows the remark.
 #![tactic(auto)]
 
 use exp_json::{FieldKind, SessionFault, read_session};
@@ -13,12 +14,33 @@ fn main(rt: HostRuntime) -> io::Result<()> {
         return println!(rt; "words: ROUNDS FILE..");
     };
     for path in words {
-        let bytes = fs::read(&rt, path.as_str())?;
-        for _ in 1..rounds {
-            let _ = read_session(rt.alloc(), bytes.as_slice());
+        if path.ends_with(".tsv") {
+            read_lines(&rt, path.as_str())?;
+        } else {
+            read_file(&rt, path.as_str(), rounds)?;
         }
-        let line = line_of(rt.alloc(), bytes.as_slice())?;
-        println!(rt; "{path}: {line}")?;
+    }
+    Ok(())
+}
+
+// Says what the one session of a file has, which is read so many times.
+fn read_file(rt: &HostRuntime, path: &str, rounds: u32) -> io::Result<()> {
+    let bytes = fs::read(rt, path)?;
+    for _ in 1..rounds {
+        let _ = read_session(rt.alloc(), bytes.as_slice());
+    }
+    let line = line_of(rt.alloc(), bytes.as_slice())?;
+    println!(rt; "{path}: {line}")
+}
+
+// Says what the session of each line of a file has, behind the line's remark.
+fn read_lines(rt: &HostRuntime, path: &str) -> io::Result<()> {
+    let text = fs::read_to_string(rt, path)?;
+    for line in text.lines() {
+        if let Some((remark, session)) = line.split_once('\t') {
+            let found = line_of(rt.alloc(), session.as_bytes())?;
+            println!(rt; "{remark}: {found}")?;
+        }
     }
     Ok(())
 }
