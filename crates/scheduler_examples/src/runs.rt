@@ -1,6 +1,10 @@
 // Runs of two pipelines, and the choices among them.
 
+ghost use Rattle.std.specs.Prelude.{◌≡◌};
+
 use exp_runs::{Run, Runs, Status};
+use std::alloc::Global;
+use std::process::Abort;
 use std::test::Fail;
 
 fn run(rid: u64, pipeline: u32, priority: i64, due: u64, status: Status) -> Run {
@@ -18,23 +22,26 @@ fn run(rid: u64, pipeline: u32, priority: i64, due: u64, status: Status) -> Run 
     }
 }
 
+// Adds a run, for which there is memory.
+fn add(rt: &impl Abort, alloc: Global, runs: &mut Runs, run: Run)
+    requires { runs.old.pipelines ≡ 2 }
+    ensures { runs.new.pipelines ≡ 2 }
+{
+    assert!(rt; runs.get(run.rid).is_none() && run.pipeline < 2);
+    let added = runs.add(alloc, run);
+    assert!(rt; added.is_ok());
+}
+
 #[test]
 fn priority_due_date_and_number_decide(rt: HostRuntime) -> Result<(), Fail> {
     let alloc = rt.alloc();
     let mut runs = Runs::new(alloc, 2)?;
-    let waiting = [
-        run(0, 0, 1, 0, Status::Pending),
-        run(1, 0, 2, 10, Status::Pending),
-        run(2, 0, 2, 5, Status::Pending),
-        run(3, 1, 9, 0, Status::Pending),
-        run(4, 0, 0, 0, Status::RunDone),
-        run(5, 0, 0, 0, Status::RunDone),
-    ];
-    for it in waiting {
-        assert!(rt; runs.get(it.rid).is_none() && it.pipeline < 2);
-        let added = runs.add(alloc, it);
-        assert!(rt; added.is_ok());
-    }
+    add(&rt, alloc, &mut runs, run(0, 0, 1, 0, Status::Pending));
+    add(&rt, alloc, &mut runs, run(1, 0, 2, 10, Status::Pending));
+    add(&rt, alloc, &mut runs, run(2, 0, 2, 5, Status::Pending));
+    add(&rt, alloc, &mut runs, run(3, 1, 9, 0, Status::Pending));
+    add(&rt, alloc, &mut runs, run(4, 0, 0, 0, Status::RunDone));
+    add(&rt, alloc, &mut runs, run(5, 0, 0, 0, Status::RunDone));
     let choices = [
         (0, 0, Some(0)),
         (0, 4, Some(0)),
