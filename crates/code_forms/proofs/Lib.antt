@@ -1,4 +1,5 @@
 pub mod Examples
+pub mod Found
 pub mod Lengths
 pub mod SmallKernels
 pub mod StatementLengths
