@@ -34,7 +34,8 @@ use Rattle.code_follows.proofs.NamesGrow.{scalar_declared, grows_after_block, ta
 use Rattle.code_follows.proofs.Whole.{runs_as_meant}
 use Rattle.code_forms.specs.Suited.{IsSuitedProgram, IsSuitedBlock}
 use Rattle.code_meaning.proofs.Known.{Known}
-use Rattle.code_meaning.proofs.Lookups.{named_text, function_place, same_name, texts_of_function}
+use Rattle.code_forms.proofs.Found.{function_place, same_name}
+use Rattle.code_meaning.proofs.Lookups.{named_text, texts_of_function}
 use Rattle.code_meaning.proofs.Places.{Placed}
 use Rattle.code_meaning.proofs.Statements.{follows_block}
 

@@ -1,38 +1,14 @@
 -- The texts and the functions of a program are found where the code's functions look for them.
-use Rattle.std.proofs.Common.{◌≡◌, ℕ, zero, suc, ◌<◌, List, [], ◌∷◌, ◌++◌, length, slice_get, Some, None, refl, sym, ◌∙◌, ap, subst, arith}
-use Rattle.std.specs.Prelude.{Bool, true, false, ◌||◌, nat_lt, bytes_eq, is_some, unwrap_or, if◌then◌else◌}
-use Rattle.std.specs.List.{find, position, position_or_len, list_any}
+use Rattle.std.proofs.Common.{◌≡◌, ℕ, zero, suc, List, [], ◌∷◌, ◌++◌, slice_get, Some, refl, sym, ◌∙◌, ap, subst}
+use Rattle.std.specs.Prelude.{Bool, true, false, ◌||◌, bytes_eq, is_some, unwrap_or, if◌then◌else◌}
+use Rattle.std.specs.List.{find, position, list_any}
 use Rattle.std.proofs.lemmas.Bool.{false≢true}
-use Rattle.std.proofs.lemmas.List.Folds.{find_at}
 use Rattle.std.proofs.lemmas.Slice.Eq.{bytes_eq-Decides}
 use Rattle.kern_syntax.specs.Tree.{Bytes, FunctionTree, ProgramTree}
-use Rattle.kern_calls.specs.Types.{function_named}
 use Rattle.kern_expression_types.specs.Before.{is_in, with_member}
-use Rattle.kern_types.specs.Programs.{place_of_function}
 use Rattle.code_forms.specs.Texts.{block_texts, program_texts, with_texts, texts_of}
+use Rattle.code_forms.proofs.Found.{found_passes, first_found}
 use Rattle.code_meaning.proofs.Known.{TextsIn, in_front, in_back}
-
-get_below : {A : Type 0} (xs : List A) (k : ℕ) (x : A) → slice_get xs k ≡ Some x → k < length xs
-get_below [] k x e = absurd (false≢true (ap is_some e))
-get_below (y ∷ xs) zero x e = omega arith
-get_below (y ∷ xs) (suc k) x e = omega (arith, get_below xs k x e)
-
--- what is found passes, and stands at the first place that does
-found_passes : {A : Type 0} (p : A → Bool) (xs : List A) (x : A) → find p xs ≡ Some x → p x ≡ true
-found_passes p [] x e = absurd (false≢true (ap is_some e))
-found_passes p (y ∷ xs) x e = by_test (p y) refl e (found_passes p xs x)
-  where
-    by_test : (b : Bool) → p y ≡ b → (if b then Some y else find p xs) ≡ Some x → (find p xs ≡ Some x → p x ≡ true) → p x ≡ true
-    by_test true is e' k = subst (λ z. p z ≡ true) (ap (λ o. unwrap_or o y) e') is
-    by_test false is e' k = k e'
-
-pub first_found : {A : Type 0} (p : A → Bool) (xs : List A) (x : A) → find p xs ≡ Some x → (k : ℕ) × (position p xs ≡ Some k) × (slice_get xs k ≡ Some x)
-first_found p xs x e =
-    let k = position_or_len p xs in
-    let there : slice_get xs k ≡ Some x = sym (find_at p xs) ∙ e in
-    let less = get_below xs k x there in
-    let below : nat_lt k (length xs) ≡ true = grind (arith, less) in
-    (k, ap (λ b. if b then Some k else None) below, there)
 
 any_found : {A : Type 0} (p : A → Bool) (xs : List A) → list_any p xs ≡ true → (x : A) × (find p xs ≡ Some x)
 any_found p [] e = absurd (false≢true e)
@@ -49,13 +25,6 @@ named_text texts text e =
     let at = first_found (bytes_eq text) texts f.0 f.1 in
     let same : text ≡ f.0 = (bytes_eq-Decides text f.0).0 (found_passes (bytes_eq text) texts f.0 f.1) in
     ap (λ o. slice_get texts (unwrap_or o 0)) at.1 ∙ at.2 ∙ ap Some (sym same)
-
--- a function of the program stands where it is looked for, under its own name
-pub function_place : (program : ProgramTree) (name : Bytes) (f : FunctionTree) → function_named program name ≡ Some f → (k : ℕ) × (place_of_function program name ≡ Some k) × (slice_get program k ≡ Some f)
-function_place program name f e = first_found (λ g. bytes_eq name g.name) program f e
-
-pub same_name : (program : ProgramTree) (name : Bytes) (f : FunctionTree) → function_named program name ≡ Some f → name ≡ f.name
-same_name program name f e = (bytes_eq-Decides name f.name).0 (found_passes (λ g. bytes_eq name g.name) program f e)
 
 -- texts that are there stay, and a further one is there then
 in_more : (names : List Bytes) (more text : Bytes) → is_in names text ≡ true → is_in (names ++ more ∷ []) text ≡ true
