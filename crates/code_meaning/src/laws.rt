@@ -2,6 +2,8 @@
 
 ghost use Rattle.kern_syntax.specs.Tree.{ProgramTree};
 ghost use Rattle.kern_types.specs.Checked.{IsChecked};
+ghost use Rattle.core_isa.specs.Marks.{HasOrder};
+ghost use Rattle.code_forms.specs.Programs.{code_of_program};
 ghost use Rattle.code_meaning.specs.Laws.{CodeDoesWhatItMeans};
 
 /// The code of a checked program does what the program means: for every function, fitting arguments, cursor, units and replies
@@ -9,4 +11,10 @@ ghost use Rattle.code_meaning.specs.Laws.{CodeDoesWhatItMeans};
 /// same cursor and with the same units left.
 pub fn code_does_what_the_program_means()
     ensures { (program : ProgramTree) → IsChecked program → CodeDoesWhatItMeans program }
+{}
+
+/// The functions of the code stand one behind another from place 0 on, in the order of the text, each within the code, and each
+/// has a slot for every parameter: so an image can hold them.
+pub fn functions_stand_in_order()
+    ensures { (program : ProgramTree) → HasOrder (code_of_program program) }
 {}

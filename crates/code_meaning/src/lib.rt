@@ -3,4 +3,4 @@
 
 mod laws;
 
-pub use laws::code_does_what_the_program_means;
+pub use laws::{code_does_what_the_program_means, functions_stand_in_order};
