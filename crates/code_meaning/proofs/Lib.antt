@@ -16,6 +16,7 @@ pub mod ParallelBlocks
 pub mod Places
 pub mod Recordings
 pub mod Returns
+pub mod Short
 pub mod Statements
 pub mod TryBlocks
 pub mod WhileLoops

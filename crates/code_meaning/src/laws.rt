@@ -1,5 +1,7 @@
 // What the code of every kernel does.
 
+ghost use Rattle.std.specs.Prelude.{◌*◌, ◌≤◌, length};
+ghost use Rattle.kern_syntax.specs.Nodes.{program_nodes};
 ghost use Rattle.kern_syntax.specs.Tree.{ProgramTree};
 ghost use Rattle.kern_types.specs.Checked.{IsChecked};
 ghost use Rattle.core_isa.specs.Marks.{HasOrder};
@@ -17,4 +19,9 @@ pub fn code_does_what_the_program_means()
 /// has a slot for every parameter: so an image can hold them.
 pub fn functions_stand_in_order()
     ensures { (program : ProgramTree) → HasOrder (code_of_program program) }
+{}
+
+/// The code of a checked program has at most 16 instructions for each node of its tree.
+pub fn code_is_short()
+    ensures { (program : ProgramTree) → IsChecked program → length (code_of_program program).lines ≤ 16 * program_nodes program }
 {}

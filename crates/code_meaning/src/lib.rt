@@ -3,4 +3,4 @@
 
 mod laws;
 
-pub use laws::{code_does_what_the_program_means, functions_stand_in_order};
+pub use laws::{code_does_what_the_program_means, code_is_short, functions_stand_in_order};
