@@ -1,5 +1,8 @@
 // A list of numbers, each with the chair that put it.
-ghost use Rattle.std.specs.Prelude.{◌≡◌, ℕ, List, [], ◌∷◌, ◌++◌, IfOk, IfErr};
+ghost use Rattle.std.specs.Prelude.{◌≡◌, ℕ, List, [], ◌∷◌, ◌++◌, IfOk, IfErr, IfSome, IsTrue};
+ghost use Rattle.std.specs.List.{range_with_len};
+ghost use Rattle.desk_rule.specs.Histories.{acts_of};
+ghost use Rattle.desk_bench.specs.Complete.{HasAll};
 
 use desk::Booked;
 use std::alloc::{AllocError, Global};
@@ -49,17 +52,29 @@ impl Tally {
     }
 
     /// Whether each chair below `chairs` has put the numbers from 0 to `puts`, in order, and there are no others.
-    pub fn has_all(&self, chairs: u32, puts: u32) -> bool {
-        self.items.len() as u64 == u64::from(chairs) * u64::from(puts)
-            && (0..chairs).all(|by| self.count_in_order(by) == Some(puts))
+    pub fn has_all(&self, chairs: u32, puts: u32) -> bool
+        ensures { IsTrue result → HasAll chairs puts self.now }
+    {
+        if self.items.len() as u64 != u64::from(chairs) * u64::from(puts) {
+            return false;
+        }
+        for by in 0..chairs {
+            if self.count_in_order(by) != Some(puts) {
+                return false;
+            }
+        }
+        true
     }
 
     // How many numbers the chair has put, if they are those from 0 on, in order.
-    fn count_in_order(&self, by: u32) -> Option<u32> {
+    fn count_in_order(&self, by: u32) -> Option<u32>
+        ensures { IfSome result (λ count. acts_of by self.now ≡ range_with_len 0 count) }
+    {
         let mut count: u32 = 0;
-        for (chair, number) in &self.items {
-            if *chair == by {
-                if *number != count {
+        for entry in &self.items {
+            let (chair, number) = *entry;
+            if chair == by {
+                if number != count {
                     return None;
                 }
                 count = count.checked_add(1)?;
