@@ -14,6 +14,12 @@ abbrev pub IsStopOf : {A : Type 0} → Stop → Reading A → Type 0
 IsStopOf (S.Fault path kind) reading = reading ≡ fault path kind
 IsStopOf S.Memory reading = Unit {0}
 
+-- an answer that isn't want of memory
+abbrev pub IsSettled : {A : Type 0} → Result A Stop → Type 0
+IsSettled (Ok a) = Unit {0}
+IsSettled (Err (S.Fault path kind)) = Unit {0}
+IsSettled (Err S.Memory) = ⊥
+
 -- what a function gives is what the reading says, unless memory ran out
 abbrev pub Gives : {A : Type 0} → Result A Stop → Reading A → Type 0
 Gives (Ok a) reading = reading ≡ good a

@@ -1,5 +1,5 @@
 -- What a part of a session is read as, or the first fault in it.
-use Rattle.std.specs.Prelude.{ℕ, Bool, true, false, List, [], ◌∷◌, Option, Some, None}
+use Rattle.std.specs.Prelude.{Bool, true, false, List, [], ◌∷◌, Option, Some, None}
 use Rattle.json_fields.specs.declared.fault.FieldKind.{FieldKind}
 use Rattle.json_fields.specs.declared.path.Part.{Part}
 

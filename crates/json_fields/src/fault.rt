@@ -52,7 +52,7 @@ impl<T: Drop> From<AllocFailed<T>> for Stop {
 }
 
 ghost use Rattle.std.specs.Prelude.{◌≡◌, []};
-ghost use Rattle.json_fields.specs.Answers.{Gives};
+ghost use Rattle.json_fields.specs.Answers.{Gives, IsSettled};
 ghost use Rattle.json_fields.specs.Readings.{Reading, demand, within};
 
 /// A fault of the value itself.
@@ -67,7 +67,8 @@ pub fn fault_here(alloc: Global, kind: FieldKind) -> Stop
 
 /// A fault of the value itself, unless the test holds.
 pub fn demand(alloc: Global, test: bool, kind: FieldKind) -> Result<(), Stop>
-    ensures { Gives result (demand test kind) }
+    ensures read { Gives result (demand test kind) }
+    ensures settled { IsSettled result }
 {
     if test {
         Ok(())

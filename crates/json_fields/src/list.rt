@@ -2,7 +2,7 @@
 
 ghost use Rattle.std.specs.Prelude.{◌≡◌};
 ghost use Rattle.serde_json.specs.View.{view, items_view};
-ghost use Rattle.json_fields.specs.Answers.{Lends, LendsItems};
+ghost use Rattle.json_fields.specs.Answers.{IsSettled, Lends, LendsItems};
 ghost use Rattle.json_fields.specs.Lists.{item_needed, items_of_list, many};
 
 use crate::fault::{FieldKind, Stop, fault_here};
@@ -17,7 +17,8 @@ pub fn items_of_list<'v>(
     low: usize,
     high: usize,
 ) -> Result<&'v [Value], Stop>
-    ensures { LendsItems result (items_of_list low high (view value.now)) }
+    ensures read { LendsItems result (items_of_list low high (view value.now)) }
+    ensures settled { IsSettled result }
 {
     let Some(values) = value.as_array() else {
         return Err(fault_here(alloc, FieldKind::Shape));
@@ -30,7 +31,8 @@ pub fn items_of_list<'v>(
 
 /// An item of a list that is long enough.
 pub fn item_needed<'v>(alloc: Global, value: &'v Value, place: usize) -> Result<&'v Value, Stop>
-    ensures { Lends result (item_needed place (view value.now)) }
+    ensures read { Lends result (item_needed place (view value.now)) }
+    ensures settled { IsSettled result }
 {
     match value.get(place) {
         Some(found) => Ok(found),

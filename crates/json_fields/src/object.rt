@@ -5,7 +5,7 @@ ghost use Rattle.std.specs.List.{list_any};
 ghost use Rattle.std.specs.Prelude.{bytes_eq};
 ghost use Rattle.serde_json.specs.Find.{get};
 ghost use Rattle.serde_json.specs.View.{view};
-ghost use Rattle.json_fields.specs.Answers.{Gives, Lends};
+ghost use Rattle.json_fields.specs.Answers.{Gives, IsSettled, Lends};
 ghost use Rattle.json_fields.specs.Objects.{an_object, given_or, least_unknown, needed, only_known};
 
 use crate::fault::{FieldKind, Stop, fault_here, within_key};
@@ -16,7 +16,8 @@ use std::alloc::Global;
 
 /// It has to be an object.
 pub fn an_object(alloc: Global, value: &Value) -> Result<(), Stop>
-    ensures { Gives result (an_object (view value.now)) }
+    ensures read { Gives result (an_object (view value.now)) }
+    ensures settled { IsSettled result }
 {
     if value.is_object() {
         Ok(())

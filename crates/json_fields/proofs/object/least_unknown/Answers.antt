@@ -1,4 +1,4 @@
-use Rattle.std.proofs.Common.{◌≡◌, true, false, not, ◌∷◌, map, Some, bytes_eq, string_bytes, sym, ap, ◌∙◌, rules}
+use Rattle.std.proofs.Common.{◌≡◌, true, false, ◌∷◌, map, Some, bytes_eq, string_bytes, sym, ap, ◌∙◌, rules}
 use Rattle.std.specs.List.{list_any}
 use Rattle.json_fields.proofs.Keys.{first_unknown, key_passed, key_refused, least_from, lent}
 use Rattle.json_fields.proofs.object.least_unknown.Goals as goal
