@@ -50,15 +50,15 @@ length-returning mark =
     length-straight mark (end_tries mark.tries ++ I.Return ∷ [])
     ∙ (length-append (end_tries mark.tries) (I.Return ∷ []) ∙ ap (λ k. k + 1) (length-replicate mark.tries I.EndTry))
 
-tries-result : (value : Bool) (mark : Mark) → (result_mark value mark).tries ≡ mark.tries
+pub tries-result : (value : Bool) (mark : Mark) → (result_mark value mark).tries ≡ mark.tries
 tries-result true mark = refl
 tries-result false mark = refl
 
-length-no_result : (value : Bool) → length (no_result value) ≡ when value
+pub length-no_result : (value : Bool) → length (no_result value) ≡ when value
 length-no_result true = refl
 length-no_result false = refl
 
-length-no_value : (value : Bool) → length (no_value value) ≡ unless value
+pub length-no_value : (value : Bool) → length (no_value value) ≡ unless value
 length-no_value true = refl
 length-no_value false = refl
 
@@ -71,7 +71,7 @@ length-branch mark else_at c b l r ec eb el er =
     four c (line (raised 1 mark) (I.JumpZero else_at) ∷ b) l r ec (ap suc eb) el er ∙ omega arith
 
 module _ (setting : Setting) where
-  length-exit : (mark : Mark) (rest : Otherwise) (end : ℕ) → length (exit mark rest end) ≡ exit_size setting rest
+  pub length-exit : (mark : Mark) (rest : Otherwise) (end : ℕ) → length (exit mark rest end) ≡ exit_size setting rest
   length-exit mark no_else end = refl
   length-exit mark (else_do b) end = refl
   length-exit mark (elif_then line c b rest) end = refl
@@ -117,7 +117,7 @@ module _ (setting : Setting) where
   length-second : (inside : Inside) (place : ℕ) (e : Expression) → length (second_code setting inside place e) ≡ expression_size setting e
   length-second inside place e = length-expression setting inside.free (raised 1 inside.mark) place e
 
-  length-return : (inside : Inside) (place : ℕ) (e : Option Expression) → length (return_code setting inside place e) ≡ return_size setting e
+  pub length-return : (inside : Inside) (place : ℕ) (e : Option Expression) → length (return_code setting inside place e) ≡ return_size setting e
   length-return inside place None = length-straight inside.mark (no_result setting.value) ∙ length-no_result setting.value
   length-return inside place (Some e) =
       two _ _ (length-value inside place e) (length-straight (raised 1 inside.mark) (no_value setting.value) ∙ length-no_value setting.value)

@@ -1,6 +1,6 @@
 -- What a typed program gives the compiler: its names are there with the right kinds, its calls have what they take, and
 -- nothing leaves a block that it may not leave.
-use Rattle.std.specs.Prelude.{◌≡◌, ℕ, ◌<◌, ◌^◌, List, [], ◌∷◌, length, Bool, true, false, Option, Some, None, is_some, slice_get}
+use Rattle.std.specs.Prelude.{◌≡◌, ℕ, ◌<◌, ◌≤◌, ◌^◌, List, [], ◌∷◌, length, Bool, true, false, Option, Some, None, is_some, slice_get}
 use Rattle.kern_syntax.specs.Tree.{Bytes, Expression, integer, true_literal, false_literal, variable, element, group, unary, binary, compare, negation, conjunction, disjunction, call, method, Arguments, no_more, value_then, text_then, Statement, pass, break, continue, return, evaluate, assign, assign_element, augment, augment_element, assign_repeated, assign_list, if_then, while_do, for_range, parallel, sequential, record_as, try_do, Block, done, line_then, Otherwise, no_else, else_do, elif_then, Handlers, no_handler, except_then, FunctionTree, ProgramTree}
 use Rattle.kern_calls.specs.declared.types.ValueType.{ValueType}
 use Rattle.kern_calls.specs.declared.types.ValueType.TheVariants as V
@@ -9,8 +9,8 @@ use Rattle.kern_calls.specs.declared.calls.Builtin.{Builtin}
 use Rattle.kern_calls.specs.declared.calls.Builtin.TheVariants.{NowMu, SetDataset}
 use Rattle.kern_calls.specs.declared.calls.Operation.{Operation}
 use Rattle.kern_calls.specs.declared.calls.Operation.TheVariants.{On, Off, Write, Counter, BreakRealtime, Reset, Playback, GetHandle, Erase}
-use Rattle.kern_calls.specs.Calls.{look_up, builtin_named, method_named}
-use Rattle.kern_calls.specs.Types.{function_named}
+use Rattle.kern_calls.specs.Calls.{look_up, builtin_named, builtin_is_live, method_named, is_live}
+use Rattle.kern_calls.specs.Types.{Names, function_named, names_of}
 use Rattle.code_forms.specs.ExpressionCode.{numbers_in}
 use Rattle.code_forms.specs.Operations.{call_has_value, method_has_value, takes_numbers, array_argument}
 use Rattle.code_forms.specs.Programs.{setting_of, plain_names}
@@ -87,6 +87,19 @@ MethodHasWhatItTakes args None = ⊥
 MethodHasWhatItTakes args (Some op) =
     (numbers_in args ≡ operation_numbers op) × (operation_takes_text op ≡ true → has_text args ≡ true)
 
+-- a call of the language's own, and a method, that may not stand in a recording
+abbrev pub call_is_live : Option Builtin → Bool
+call_is_live None = false
+call_is_live (Some builtin) = builtin_is_live builtin
+
+abbrev pub method_is_live : Option Operation → Bool
+method_is_live None = false
+method_is_live (Some op) = is_live op
+
+-- where a recording may be open a call isn't live
+abbrev pub IsStill : (in_record live : Bool) → Type 0
+IsStill d live = d ≡ true → live ≡ false
+
 module _ (setting : Setting) (plain : List Bytes) where
   abbrev mutual
     -- an expression that has a value, where it may stand in a record block or not
@@ -107,8 +120,12 @@ module _ (setting : Setting) (plain : List Bytes) where
         (call_has_value setting f (builtin_named f) ≡ true)
         × HasWhatItTakes setting plain d f args (array_argument setting args) (builtin_named f)
         × (takes_numbers (array_argument setting args) (builtin_named f) ≡ true → AreSuited d args)
+        × IsStill d (call_is_live (builtin_named f))
     IsSuited d (method o m args) =
-        (method_has_value (method_named o m) ≡ true) × MethodHasWhatItTakes args (method_named o m) × AreSuited d args
+        (method_has_value (method_named o m) ≡ true)
+        × MethodHasWhatItTakes args (method_named o m)
+        × AreSuited d args
+        × IsStill d (method_is_live (method_named o m))
 
     -- arguments
     pub AreSuited : (in_record : Bool) → Arguments → Type 0
@@ -122,7 +139,11 @@ module _ (setting : Setting) (plain : List Bytes) where
   IsSuitedAlone d (call f args) =
       HasWhatItTakes setting plain d f args (array_argument setting args) (builtin_named f)
       × (takes_numbers (array_argument setting args) (builtin_named f) ≡ true → AreSuited d args)
-  IsSuitedAlone d (method o m args) = MethodHasWhatItTakes args (method_named o m) × AreSuited d args
+      × IsStill d (call_is_live (builtin_named f))
+  IsSuitedAlone d (method o m args) =
+      MethodHasWhatItTakes args (method_named o m)
+      × AreSuited d args
+      × IsStill d (method_is_live (method_named o m))
   IsSuitedAlone d e = IsSuited d e
 
   abbrev pub IfThereSuited : (in_record : Bool) → Option Expression → Type 0
@@ -174,10 +195,27 @@ module _ (setting : Setting) (plain : List Bytes) where
     AreSuitedHandlers l r d no_handler = Unit {0}
     AreSuitedHandlers l r d (except_then line x b rest) = IsSuitedBlock l r d b × AreSuitedHandlers l r d rest
 
--- the functions of a program: each is suited, and a plain one also where a recording is open
+-- a type of one number, or an array of 1 to 512 numbers
+abbrev pub IsSized : ValueType → Type 0
+IsSized (V.Array n) = (1 ≤ n) × (n ≤ 512)
+IsSized t = Unit {0}
+
+-- so are the types of some names
+abbrev pub AreSized : Names → Type 0
+AreSized [] = Unit {0}
+AreSized (name ∷ names) = IsSized name.1 × AreSized names
+
+-- a function has at most 64 names, each of a size, and at most 8 of them are parameters
+pub record HasFewNames (program : ProgramTree) (f : FunctionTree) : Type 0 where
+  pub sized : AreSized (names_of program f)
+  pub few : length (names_of program f) ≤ 64
+  pub parameters : length f.parameters ≤ 8
+
+-- the functions of a program: each is suited, a plain one also where a recording is open, and each has few names
 abbrev pub IsSuitedProgram : ProgramTree → Type 0
 IsSuitedProgram program =
     (k : ℕ) (f : FunctionTree)
     → slice_get program k ≡ Some f
     → IsSuitedBlock (setting_of program (texts_of program) f) (plain_names [] program) false true false f.body
     × (is_in (plain_names [] program) f.name ≡ true → IsSuitedBlock (setting_of program (texts_of program) f) (plain_names [] program) false true true f.body)
+    × HasFewNames program f

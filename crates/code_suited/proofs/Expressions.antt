@@ -26,7 +26,7 @@ use Rattle.timeline_sem.specs.Expressions.{array_in, if_array}
 use Rattle.code_forms.specs.Setting as C
 use Rattle.code_forms.specs.ExpressionCode.{numbers_in}
 use Rattle.code_forms.specs.Operations.{call_has_value, method_has_value, takes_numbers, array_argument}
-use Rattle.code_forms.specs.Suited.{is_scalar, IsSuited, AreSuited, IsSuitedAlone, IsArrayName, IsAnArray, HasWhatItTakes, MethodHasWhatItTakes, builtin_takes_text, has_text}
+use Rattle.code_forms.specs.Suited.{is_scalar, IsSuited, AreSuited, IsSuitedAlone, IsArrayName, IsAnArray, HasWhatItTakes, MethodHasWhatItTakes, builtin_takes_text, has_text, call_is_live, method_is_live, IsStill}
 use Rattle.code_suited.proofs.Inverted.{same_found, inverted, not_refused, none_refused, was_there, same_type, is_text, is_array, integer_given, condition_given, fitting_scalar, wants_text, text_wanted, value_wanted, no_array, array_wanted}
 use Rattle.code_suited.proofs.Wanted.{literal_scalar, binary_scalar, not_array, IsScalarGiven, compared_given, result_typed, result_there, result_scalar, result_no_text, count, wants, NoArrayWanted, NoArrays, parameters_no_array, parameters_count, fits_no_array, builtin_count, operation_count, operation_wants, operation_no_array, equal_lengths}
 
@@ -98,6 +98,10 @@ module _ (functions : Functions) (place : Place) (ns : Names) (cs : C.Setting) (
       (equal_lengths (length gs) (length ws) same, (b.0, b.1), not_refused _ _ _ c.0 c.1, same_found c.2)
 
   -- no live call where a recording may be open
+  still : (d live : Bool) → (d && live) ≡ false → IsStill d live
+  still true live e q = e
+  still false live e q = absurd (false≢true q)
+
   not_live : (d live : Bool) → (d && not live) ≡ false → d ≡ true → live ≡ true
   not_live true true e q = refl
   not_live true false e q = absurd (false≢true (sym e))
@@ -227,13 +231,13 @@ module _ (functions : Functions) (place : Place) (ns : Names) (cs : C.Setting) (
         ((r.0, (λ t. absurd (false≢true t)), d.0), d.1)
 
   -- a call that has what it takes, and gives what its result says
-  called_found : (f : Bytes) (args : Arguments) (result : Option DeclaredType) → Has f args (builtin_named f) → ((t : ValueType) → result_type result ≡ t → type_of so_far (call f args) ≡ t) → (is_some result ≡ call_has_value cs f (builtin_named f)) → Found (call f args) (given_result result)
-  called_found f args result has ty value =
+  called_found : (f : Bytes) (args : Arguments) (result : Option DeclaredType) → Has f args (builtin_named f) → IsStill recording (call_is_live (builtin_named f)) → ((t : ValueType) → result_type result ≡ t → type_of so_far (call f args) ≡ t) → (is_some result ≡ call_has_value cs f (builtin_named f)) → Found (call f args) (given_result result)
+  called_found f args result has silent ty value =
       record {
         typed = λ t q. ty t (result_typed result t q);
-        suited = λ t q s. (sym value ∙ result_there result t q, has.0, has.1);
+        suited = λ t q s. (sym value ∙ result_there result t q, has.0, has.1, silent);
         array = λ n q. absurd (false≢true (result_scalar result (V.Array n) q));
-        alone = λ a. has;
+        alone = λ a. (has.0, has.1, silent);
         no_text = result_no_text result;
       }
 
@@ -242,7 +246,7 @@ module _ (functions : Functions) (place : Place) (ns : Names) (cs : C.Setting) (
       let c = called (builtin_takes b) (builtin_result b) (builtin_is_live b) gs g e in
       let has = builtin_has f args gs all c.1.0 b c.0 c.1.1 in
       let has' = subst (λ o. Has f args o) (sym is) has in
-      subst (Found (call f args)) c.3 (called_found f args (builtin_result b) has' (λ t q. ap (λ o. Rattle.kern_calls.specs.Types.call_type cs.scope.program f o) is ∙ q) (sym (ap (λ o. call_has_value cs f o) is)))
+      subst (Found (call f args)) c.3 (called_found f args (builtin_result b) has' (subst (λ o. IsStill recording (call_is_live o)) (sym is) (still recording (builtin_is_live b) c.2)) (λ t q. ap (λ o. Rattle.kern_calls.specs.Types.call_type cs.scope.program f o) is ∙ q) (sym (ap (λ o. call_has_value cs f o) is)))
   named_found f args None is gs all g e =
       let i = inverted _ _ g e in
       let fn = i.0 in
@@ -257,7 +261,7 @@ module _ (functions : Functions) (place : Place) (ns : Names) (cs : C.Setting) (
       let has : Has f args None = ((fn, here, many, may), λ t. r.2 (fits_no_array place.line ws gs c.1.0 c.0 (parameters_no_array fn.parameters) c.1.1)) in
       let has' = subst (λ o. Has f args o) (sym is) has in
       let result_here : option_and_then (λ h. h.result) (function_named cs.scope.program f) ≡ fn.result = ap (λ o. option_and_then (λ h. h.result) o) here in
-      subst (Found (call f args)) c.3 (called_found f args fn.result has' (λ t q. ap (λ o. Rattle.kern_calls.specs.Types.call_type cs.scope.program f o) is ∙ (ap result_type result_here ∙ q)) (sym (ap (λ o. call_has_value cs f o) is ∙ ap is_some result_here)))
+      subst (Found (call f args)) c.3 (called_found f args fn.result has' (subst (λ o. IsStill recording (call_is_live o)) (sym is) (λ q. refl)) (λ t q. ap (λ o. Rattle.kern_calls.specs.Types.call_type cs.scope.program f o) is ∙ (ap result_type result_here ∙ q)) (sym (ap (λ o. call_has_value cs f o) is ∙ ap is_some result_here)))
 
   method_found : (o m : Bytes) (args : Arguments) (op : Operation) → method_named o m ≡ Some op → (gs : List Given) → FoundAll args gs → (g : Given) → call_verdict place (operation_takes op) (operation_result op) (is_live op) gs ≡ well g → Found (method o m args) g
   method_found o m args op is gs all g e =
@@ -266,13 +270,14 @@ module _ (functions : Functions) (place : Place) (ns : Names) (cs : C.Setting) (
       let suit = r.2 (fits_no_array place.line (operation_takes op) gs c.1.0 c.0 (operation_no_array op) c.1.1) in
       let has : MethodHasWhatItTakes args (Some op) = (r.0 ∙ operation_count op, λ t. r.1 (operation_wants op t)) in
       let has' = subst (λ x. MethodHasWhatItTakes args x) (sym is) has in
+      let silent = subst (λ x. IsStill recording (method_is_live x)) (sym is) (still recording (is_live op) c.2) in
       let result = operation_result op in
       let whole : Found (method o m args) (given_result result) =
       record {
         typed = λ t q. ap (λ x. result_type (option_and_then operation_result x)) is ∙ result_typed result t q;
-        suited = λ t q s. (ap method_has_value is ∙ result_there result t q, has', suit);
+        suited = λ t q s. (ap method_has_value is ∙ result_there result t q, has', suit, silent);
         array = λ n q. absurd (false≢true (result_scalar result (V.Array n) q));
-        alone = λ a. (has', suit);
+        alone = λ a. (has', suit, silent);
         no_text = result_no_text result;
       } in
       subst (Found (method o m args)) c.3 whole

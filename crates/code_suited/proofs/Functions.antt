@@ -1,5 +1,5 @@
 -- The functions of a typed program are suited, and the plain ones also where a recording is open.
-use Rattle.std.proofs.Common.{◌≡◌, ℕ, zero, suc, List, [], ◌∷◌, ◌++◌, length, map, slice_get, Some, None, refl, sym, ◌∙◌, ap, subst, append_assoc, append-nil}
+use Rattle.std.proofs.Common.{◌≡◌, ℕ, zero, suc, ◌+◌, ◌≤◌, List, [], ◌∷◌, ◌++◌, length, map, slice_get, Some, None, refl, sym, ◌∙◌, ap, subst, arith, append_assoc, append-nil, length-append}
 use Rattle.std.specs.Prelude.{Bool, true, false, ◌||◌, nat_le, bytes_eq, is_some, unwrap_or, IsTrue, if◌then◌else◌}
 use Rattle.std.proofs.lemmas.Bool.{false≢true}
 use Rattle.std.proofs.lemmas.Slice.Eq.{bytes_eq-Decides}
@@ -16,7 +16,7 @@ use Rattle.kern_types.specs.Plain.{is_plain_function, with_plain}
 use Rattle.kern_types.specs.Programs.{most_functions, most_parameters, parameter_verdict, parameters_verdict, body_place, body_functions, body_verdict, function_verdict, functions_verdict, program_verdict, IsTyped}
 use Rattle.kern_types.specs.Statements.{block_verdict}
 use Rattle.code_forms.specs.Programs.{setting_of, plain_names}
-use Rattle.code_forms.specs.Suited.{is_scalar, IsSuitedProgram}
+use Rattle.code_forms.specs.Suited.{is_scalar, AreSized, IsSuitedProgram}
 use Rattle.code_forms.specs.Texts.{texts_of}
 use Rattle.code_forms.proofs.Found.{found_passes}
 use Rattle.code_suited.proofs.Inverted.{same_found, inverted, not_refused}
@@ -41,9 +41,19 @@ declared_scalar D.Int32 = refl
 declared_scalar D.Int64 = refl
 declared_scalar D.Bool = refl
 
-parameters_small : (ps : List ParameterTree) → AllSmall (named ps)
-parameters_small [] = tt
-parameters_small (p ∷ ps) = (scalar_small (declared_type p.declared) (declared_scalar p.declared), parameters_small ps)
+parameters_sized : (ps : List ParameterTree) → AreSized (named ps)
+parameters_sized [] = tt
+parameters_sized (p ∷ ps) = (scalar_small (declared_type p.declared) (declared_scalar p.declared), parameters_sized ps)
+
+named_count : (ps : List ParameterTree) → length (named ps) ≡ length ps
+named_count [] = refl
+named_count (p ∷ ps) = ap suc (named_count ps)
+
+parameters_small : (ps : List ParameterTree) → length ps ≤ 8 → AllSmall (named ps)
+parameters_small ps few = (parameters_sized ps, omega (arith, few, named_count ps))
+
+room_left : (n : ℕ) → nat_le most_parameters n ≡ false → n + 1 ≤ 8
+room_left n e = grind (arith, e)
 
 parameters_are : (functions : Functions) (line : ℕ) (ps : List ParameterTree) (names after : Names) → parameters_verdict functions line ps names ≡ well after → after ≡ names ++ named ps
 parameters_are functions line [] names after e = sym (same_found e) ∙ sym (append-nil names)
@@ -52,6 +62,17 @@ parameters_are functions line (p ∷ ps) names after e =
     let b = inverted (refuse_if (is_some (look_up names p.name) || is_taken functions p.name) line K.Name) (λ z. refuse_if (nat_le most_parameters (length names)) line K.Size >>= λ y. well (names ++ (p.name, declared_type p.declared) ∷ [])) a.0 a.1 in
     let c = inverted (refuse_if (nat_le most_parameters (length names)) line K.Size) (λ y. well (names ++ (p.name, declared_type p.declared) ∷ [])) a.0 b.2 in
     parameters_are functions line ps a.0 after a.2 ∙ ap (λ l. l ++ named ps) (sym (same_found c.2)) ∙ append_assoc names ((p.name, declared_type p.declared) ∷ []) (named ps)
+
+-- there are at most 8
+parameters_few : (functions : Functions) (line : ℕ) (ps : List ParameterTree) (names after : Names) → length names ≤ 8 → parameters_verdict functions line ps names ≡ well after → length names + length ps ≤ 8
+parameters_few functions line [] names after less e = omega (arith, less)
+parameters_few functions line (p ∷ ps) names after less e =
+    let a = inverted (parameter_verdict functions line p names) (λ m. parameters_verdict functions line ps m) after e in
+    let b = inverted (refuse_if (is_some (look_up names p.name) || is_taken functions p.name) line K.Name) (λ z. refuse_if (nat_le most_parameters (length names)) line K.Size >>= λ y. well (names ++ (p.name, declared_type p.declared) ∷ [])) a.0 a.1 in
+    let c = inverted (refuse_if (nat_le most_parameters (length names)) line K.Size) (λ y. well (names ++ (p.name, declared_type p.declared) ∷ [])) a.0 b.2 in
+    let one : length a.0 ≡ length names + 1 = ap length (sym (same_found c.2)) ∙ length-append names ((p.name, declared_type p.declared) ∷ []) in
+    let left : length names + 1 ≤ 8 = room_left (length names) (not_refused _ _ _ c.0 c.1) in
+    omega (arith, one, parameters_few functions line ps a.0 after (omega (arith, one, left)) a.2)
 
 -- a function that is found among some is found among more
 found_in_more : (fs more : ProgramTree) (name : Bytes) (f : FunctionTree) → function_named fs name ≡ Some f → function_named (fs ++ more) name ≡ Some f
@@ -191,7 +212,8 @@ module _ (program : ProgramTree) where
       let b = body_of r.earlier r.plain f r.names r.verdict in
       let a = inverted (parameters_verdict functions f.line f.parameters []) (λ ns. block_verdict functions f.body (body_place f) ns) r.names b in
       let first : a.0 ≡ named f.parameters = parameters_are functions f.line f.parameters [] a.0 a.1 in
-      let small = subst AllSmall (sym first) (parameters_small f.parameters) in
+      let few : length f.parameters ≤ 8 = omega (arith, parameters_few functions f.line f.parameters [] a.0 (omega arith) a.1) in
+      let small = subst AllSmall (sym first) (parameters_small f.parameters few) in
       let whole : program ≡ (r.earlier ++ f ∷ []) ++ r.later = r.whole ∙ sym (append_assoc r.earlier (f ∷ []) r.later) in
       let callable : (name : Bytes) (g : FunctionTree) → function_named functions.callable name ≡ Some g → function_named program name ≡ Some g = λ name g e. ap (λ p. function_named p name) whole ∙ found_in_more (r.earlier ++ f ∷ []) r.later name g e in
       let growing : (name : Bytes) → is_in r.plain name ≡ true → is_in plain name ≡ true = λ name e. subst (λ l. is_in l name ≡ true) (sym r.final) (plain_grows r.plain (f ∷ r.later) name e) in
@@ -204,7 +226,7 @@ module _ (program : ProgramTree) where
       let suited = suited_block functions cs plain callable plainly (small_found cs.scope.names all_small) f.body (body_place f) a.0 r.names lines small a.2 kept refl in
       let not_before : is_in r.plain f.name ≡ true → ⊥ = λ p. false≢true (sym (new_name r.earlier r.plain f r.names r.verdict) ∙ r.known f.name p) in
       let plain_here : is_in plain f.name ≡ true → (b : Bool) → is_plain_function r.plain f ≡ b → is_plain_function r.plain f ≡ true = λ p b. by_plain r not_before (subst (λ l. is_in l f.name ≡ true) r.final p) b in
-      (suited, λ p. open_block cs plain (r.plain ++ f.name ∷ []) (λ name e. in_or_last r.plain f.name name (is_in plain name ≡ true) (growing name) (λ same. subst (λ n. is_in plain n ≡ true) (sym same) p) e) false true f.body (plain_here p _ refl) suited)
+      (suited, (λ p. open_block cs plain (r.plain ++ f.name ∷ []) (λ name e. in_or_last r.plain f.name name (is_in plain name ≡ true) (growing name) (λ same. subst (λ n. is_in plain n ≡ true) (sym same) p) e) false true f.body (plain_here p _ refl) suited), record { sized = all_small.0; few = all_small.1; parameters = few })
     where
       by_plain : (r : Stands f) → (is_in r.plain f.name ≡ true → ⊥) → is_in (plain_names (with_plain r.plain f) r.later) f.name ≡ true → (b : Bool) → is_plain_function r.plain f ≡ b → is_plain_function r.plain f ≡ true
       by_plain r none p true e = e

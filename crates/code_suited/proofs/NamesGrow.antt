@@ -1,5 +1,5 @@
 -- The names that the verdict finds after a statement are those that the definitions give, and only grow.
-use Rattle.std.proofs.Common.{◌≡◌, ℕ, ◌<◌, ◌≤◌, ◌^◌, [], ◌∷◌, ◌++◌, length, Option, Some, None, refl, sym, ◌∙◌, ap, subst, arith}
+use Rattle.std.proofs.Common.{◌≡◌, ℕ, ◌<◌, ◌≤◌, ◌^◌, [], ◌∷◌, ◌++◌, length, Option, Some, None, refl, sym, ◌∙◌, ap, subst, arith, length-append}
 use Rattle.std.specs.Prelude.{Bool, true, false, not, ◌&&◌, ◌==◌, nat_le, bytes_eq, is_some, unwrap_or, if◌then◌else◌}
 use Rattle.std.proofs.lemmas.Bool.{false≢true}
 use Rattle.kern_syntax.specs.Tree.{Bytes}
@@ -13,7 +13,7 @@ use Rattle.kern_expression_types.specs.Before.{Functions, is_taken}
 use Rattle.kern_expression_types.specs.Verdicts.{Verdict, well, fault, ◌>>=◌, refuse_if, found_or}
 use Rattle.kern_expression_types.specs.Fits.{kept_misfit}
 use Rattle.kern_types.specs.Statements.{most_names, kept_verdict, assigned_verdict, array_verdict}
-use Rattle.code_forms.specs.Suited.{is_scalar}
+use Rattle.code_forms.specs.Suited.{is_scalar, IsSized, AreSized}
 use Rattle.code_suited.proofs.Inverted.{same_found, inverted, not_refused, none_refused, was_there, some_kind}
 
 -- what is known of names stays known
@@ -26,28 +26,36 @@ kept_same ns = record { known = λ x t e. e }
 pub kept_then : {a b c : Names} → Kept a b → Kept b c → Kept a c
 kept_then f g = record { known = λ x t e. g.known x t (f.known x t e) }
 
--- every array among names has a length that an int64 holds
-abbrev pub IsSmall : ValueType → Type 0
-IsSmall t = (n : ℕ) → t ≡ V.Array n → n < 2 ^ 63
-
+-- there are at most 64 names, and every array among them has from 1 to 512 numbers
 abbrev pub AllSmall : Names → Type 0
-AllSmall [] = Unit {0}
-AllSmall (name ∷ ns) = IsSmall name.1 × AllSmall ns
+AllSmall ns = AreSized ns × (length ns ≤ 64)
 
-pub small_found : (ns : Names) → AllSmall ns → (x : Bytes) (n : ℕ) → look_up ns x ≡ Some (V.Array n) → n < 2 ^ 63
-small_found [] s x n e = absurd (false≢true (ap is_some e))
-small_found (m ∷ ns) s x n e = by_test (bytes_eq x m.0) e (small_found ns s.1 x n)
+pub not_too_long : (t : ValueType) (n : ℕ) → IsSized t → t ≡ V.Array n → n < 2 ^ 63
+not_too_long t n s e = let sizes : IsSized (V.Array n) = subst IsSized e s in omega (arith, sizes.1)
+
+small_by : (ns : Names) → AreSized ns → (x : Bytes) (n : ℕ) → look_up ns x ≡ Some (V.Array n) → n < 2 ^ 63
+small_by [] s x n e = absurd (false≢true (ap is_some e))
+small_by (m ∷ ns) s x n e = by_test (bytes_eq x m.0) e (small_by ns s.1 x n)
   where
     by_test : (b : Bool) → (if b then Some m.1 else look_up ns x) ≡ Some (V.Array n) → (look_up ns x ≡ Some (V.Array n) → n < 2 ^ 63) → n < 2 ^ 63
-    by_test true e' k = s.0 n (ap (λ o. unwrap_or o m.1) e')
+    by_test true e' k = not_too_long m.1 n s.0 (ap (λ o. unwrap_or o m.1) e')
     by_test false e' k = k e'
 
-small_behind : (ns : Names) (x : Bytes) (t : ValueType) → AllSmall ns → IsSmall t → AllSmall (ns ++ (x, t) ∷ [])
-small_behind [] x t s own = (own, tt)
-small_behind (m ∷ ns) x t s own = (s.0, small_behind ns x t s.1 own)
+pub small_found : (ns : Names) → AllSmall ns → (x : Bytes) (n : ℕ) → look_up ns x ≡ Some (V.Array n) → n < 2 ^ 63
+small_found ns s x n e = small_by ns s.0 x n e
 
-pub scalar_small : (t : ValueType) → is_scalar t ≡ true → IsSmall t
-scalar_small t s n e = absurd (false≢true (sym (ap is_scalar e) ∙ s))
+sized_behind : (ns : Names) (x : Bytes) (t : ValueType) → AreSized ns → IsSized t → AreSized (ns ++ (x, t) ∷ [])
+sized_behind [] x t s own = (own, tt)
+sized_behind (m ∷ ns) x t s own = (s.0, sized_behind ns x t s.1 own)
+
+small_behind : (ns : Names) (x : Bytes) (t : ValueType) → AllSmall ns → length ns < 64 → IsSized t → AllSmall (ns ++ (x, t) ∷ [])
+small_behind ns x t s less own = (sized_behind ns x t s.0 own, omega (arith, less, length-append ns ((x, t) ∷ [])))
+
+pub scalar_small : (t : ValueType) → is_scalar t ≡ true → IsSized t
+scalar_small V.Int32 s = tt
+scalar_small V.Int64 s = tt
+scalar_small V.Bool s = tt
+scalar_small (V.Array n) s = absurd (false≢true s)
 
 known_behind : (ns : Names) (x : Bytes) (t : ValueType) (y : Bytes) (u : ValueType) → look_up ns y ≡ Some u → look_up (ns ++ (x, t) ∷ []) y ≡ Some u
 known_behind [] x t y u e = absurd (false≢true (ap is_some e))
@@ -104,7 +112,10 @@ pub record Assigned (ns : Names) (x : Bytes) (value : Option ValueType) (after :
   pub there : look_up after x ≡ Some held
   pub fits : kept_misfit held type ≡ None
   pub grown : Kept ns after
-  pub small : AllSmall ns → IsSmall type → AllSmall after
+  pub small : AllSmall ns → IsSized type → AllSmall after
+
+room : (n : ℕ) → nat_le most_names n ≡ false → n < 64
+room n e = grind (arith, e)
 
 module _ (functions : Functions) (place : Place) (ns : Names) where
   kept_by : (x : Bytes) (value : Option ValueType) (after : Names) (o : Option ValueType) → look_up ns x ≡ o → kept_verdict place ns x value o ≡ well after → Assigned ns x value after
@@ -121,7 +132,7 @@ module _ (functions : Functions) (place : Place) (ns : Names) where
         there = subst (λ l. look_up l x ≡ Some t) is (found_behind ns x t q);
         fits = kept_own t;
         grown = subst (Kept ns) is (kept_behind ns x t);
-        small = λ s own. subst AllSmall is (small_behind ns x t s own);
+        small = λ s own. subst AllSmall is (small_behind ns x t s (room (length ns) (not_refused _ _ _ a.0 a.1)) own);
       }
   kept_by x value after (Some held) q e =
       let a = inverted (found_or value place.line K.Mismatch) (λ t. Rattle.kern_expression_types.specs.Verdicts.refuse_some (kept_misfit held t) place.line >>= (λ z. well ns)) after e in
@@ -144,23 +155,16 @@ module _ (functions : Functions) (place : Place) (ns : Names) where
       let a = inverted (refuse_if (is_taken functions x) place.line K.Name) (λ z. kept_verdict place ns x value (look_up ns x)) after e in
       kept_by x value after (look_up ns x) refl a.2
 
-  -- an array is at most 512 numbers long
-  pub array_assigned : (x : Bytes) (count : ℕ) (after : Names) → array_verdict functions place ns x count ≡ well after → Assigned ns x (Some (V.Array count)) after × (count < 2 ^ 63)
+  -- an array has from 1 to 512 numbers
+  pub array_assigned : (x : Bytes) (count : ℕ) (after : Names) → array_verdict functions place ns x count ≡ well after → Assigned ns x (Some (V.Array count)) after × IsSized (V.Array count)
   array_assigned x count after e =
       let a = inverted (refuse_if (not (nat_le 1 count && nat_le count 512)) place.line K.Size) (λ z. assigned_verdict functions place ns x (Some (V.Array count))) after e in
-      (assigned x (Some (V.Array count)) after a.2, not_long count (not_refused _ _ _ a.0 a.1))
+      (assigned x (Some (V.Array count)) after a.2, sizes count (not_refused _ _ _ a.0 a.1))
     where
-      not_long : (n : ℕ) → not (nat_le 1 n && nat_le n 512) ≡ false → n < 2 ^ 63
-      not_long n q = by_test (nat_le 1 n) (nat_le n 512) refl q
+      sizes : (n : ℕ) → not (nat_le 1 n && nat_le n 512) ≡ false → (1 ≤ n) × (n ≤ 512)
+      sizes n q = by_test (nat_le 1 n) (nat_le n 512) refl refl q
         where
-          by_test : (b c : Bool) → nat_le n 512 ≡ c → not (b && c) ≡ false → n < 2 ^ 63
-          by_test true true r q' = let less : n ≤ 512 = grind (arith, r) in omega (arith, less)
-          by_test true false r q' = absurd (false≢true (sym q'))
-          by_test false c r q' = absurd (false≢true (sym q'))
-
-pub array_small : (count : ℕ) → count < 2 ^ 63 → IsSmall (V.Array count)
-array_small count less n e = subst (λ t. by_type t) e less
-  where
-    by_type : ValueType → Type 0
-    by_type (V.Array n) = n < 2 ^ 63
-    by_type t = Unit {0}
+          by_test : (b c : Bool) → nat_le 1 n ≡ b → nat_le n 512 ≡ c → not (b && c) ≡ false → (1 ≤ n) × (n ≤ 512)
+          by_test true true l r q' = let some : 1 ≤ n = grind (arith, l) in let less : n ≤ 512 = grind (arith, r) in (some, less)
+          by_test true false l r q' = absurd (false≢true (sym q'))
+          by_test false c l r q' = absurd (false≢true (sym q'))

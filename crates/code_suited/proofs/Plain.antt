@@ -1,16 +1,17 @@
 -- What stands in a plain function may stand where a recording is open.
 use Rattle.std.proofs.Common.{◌≡◌, List, [], ◌∷◌, Option, Some, None, refl}
-use Rattle.std.specs.Prelude.{Bool, true, false, ◌&&◌}
+use Rattle.std.specs.Prelude.{Bool, true, false, not, ◌&&◌}
 use Rattle.std.specs.List.{list_all}
 use Rattle.std.proofs.lemmas.Bool.{false≢true}
 use Rattle.kern_syntax.specs.Tree as T
 use Rattle.kern_syntax.specs.Tree.{Bytes, Expression, integer, true_literal, false_literal, variable, element, group, unary, binary, compare, negation, conjunction, disjunction, call, method, Arguments, no_more, value_then, text_then, Statement, pass, evaluate, assign, assign_element, augment, augment_element, assign_repeated, assign_list, if_then, while_do, for_range, parallel, sequential, record_as, try_do, Block, done, line_then, Otherwise, no_else, else_do, elif_then, Handlers, no_handler, except_then}
 use Rattle.kern_calls.specs.declared.calls.Builtin.{Builtin}
-use Rattle.kern_calls.specs.Calls.{builtin_named}
+use Rattle.kern_calls.specs.declared.calls.Operation.{Operation}
+use Rattle.kern_calls.specs.Calls.{builtin_named, builtin_is_live, method_named, is_live}
 use Rattle.kern_expression_types.specs.Before.{is_in}
-use Rattle.kern_types.specs.Plain.{is_plain_call, is_plain_expression, are_plain_arguments, is_plain_option, is_plain_statement, is_plain_block, is_plain_otherwise, are_plain_handlers}
+use Rattle.kern_types.specs.Plain.{is_plain_call, is_plain_method, is_plain_expression, are_plain_arguments, is_plain_option, is_plain_statement, is_plain_block, is_plain_otherwise, are_plain_handlers}
 use Rattle.code_forms.specs.Setting as C
-use Rattle.code_forms.specs.Suited.{HasWhatItTakes, IsSuited, AreSuited, IsSuitedAlone, IfThereSuited, EachSuited, IsSuitedStatement, IsSuitedBlock, IsSuitedOtherwise, AreSuitedHandlers}
+use Rattle.code_forms.specs.Suited.{HasWhatItTakes, call_is_live, method_is_live, IsStill, IsSuited, AreSuited, IsSuitedAlone, IfThereSuited, EachSuited, IsSuitedStatement, IsSuitedBlock, IsSuitedOtherwise, AreSuitedHandlers}
 
 -- both tests hold
 first_holds : (a b : Bool) → (a && b) ≡ true → a ≡ true
@@ -21,10 +22,22 @@ second_holds : (a b : Bool) → (a && b) ≡ true → b ≡ true
 second_holds true b e = e
 second_holds false b e = absurd (false≢true e)
 
+not_true : (b : Bool) → not b ≡ true → b ≡ false
+not_true true e = absurd (false≢true e)
+not_true false e = refl
+
 module _ (cs : C.Setting) (plain given : List Bytes) (more : (name : Bytes) → is_in given name ≡ true → is_in plain name ≡ true) where
   has_open : (f : Bytes) (args : Arguments) (array : Option Bytes) (b : Option Builtin) → is_plain_call given f b ≡ true → HasWhatItTakes cs plain false f args array b → HasWhatItTakes cs plain true f args array b
   has_open f args array None e r = (r.0, r.1, r.2, λ q. more f e)
   has_open f args array (Some b) e r = r
+
+  open_call : (f : Bytes) (b : Option Builtin) → is_plain_call given f b ≡ true → IsStill true (call_is_live b)
+  open_call f None e q = refl
+  open_call f (Some b) e q = not_true (builtin_is_live b) e
+
+  open_method : (op : Option Operation) → is_plain_method op ≡ true → IsStill true (method_is_live op)
+  open_method None e q = refl
+  open_method (Some op) e q = not_true (is_live op) e
 
   mutual
     open_expression : (e : Expression) → is_plain_expression given e ≡ true → IsSuited cs plain false e → IsSuited cs plain true e
@@ -40,8 +53,8 @@ module _ (cs : C.Setting) (plain given : List Bytes) (more : (name : Bytes) → 
     open_expression (negation e) p r = open_expression e p r
     open_expression (conjunction a b) p r = (open_expression a (first_holds _ _ p) r.0, open_expression b (second_holds _ _ p) r.1)
     open_expression (disjunction a b) p r = (open_expression a (first_holds _ _ p) r.0, open_expression b (second_holds _ _ p) r.1)
-    open_expression (call f args) p r = (r.0, has_open f args _ (builtin_named f) (first_holds _ _ p) r.1, λ q. open_arguments args (second_holds _ _ p) (r.2 q))
-    open_expression (method o m args) p r = (r.0, r.1, open_arguments args (second_holds _ _ p) r.2)
+    open_expression (call f args) p r = (r.0, has_open f args _ (builtin_named f) (first_holds _ _ p) r.1, (λ q. open_arguments args (second_holds _ _ p) (r.2 q)), open_call f (builtin_named f) (first_holds _ _ p))
+    open_expression (method o m args) p r = (r.0, r.1, open_arguments args (second_holds _ _ p) r.2, open_method (method_named o m) (first_holds _ _ p))
 
     open_arguments : (args : Arguments) → are_plain_arguments given args ≡ true → AreSuited cs plain false args → AreSuited cs plain true args
     open_arguments no_more p r = tt
@@ -50,8 +63,8 @@ module _ (cs : C.Setting) (plain given : List Bytes) (more : (name : Bytes) → 
 
   open_alone : (e : Expression) → is_plain_expression given e ≡ true → IsSuitedAlone cs plain false e → IsSuitedAlone cs plain true e
   open_alone (group e) p r = open_alone e p r
-  open_alone (call f args) p r = (has_open f args _ (builtin_named f) (first_holds _ _ p) r.0, λ q. open_arguments args (second_holds _ _ p) (r.1 q))
-  open_alone (method o m args) p r = (r.0, open_arguments args (second_holds _ _ p) r.1)
+  open_alone (call f args) p r = (has_open f args _ (builtin_named f) (first_holds _ _ p) r.0, (λ q. open_arguments args (second_holds _ _ p) (r.1 q)), open_call f (builtin_named f) (first_holds _ _ p))
+  open_alone (method o m args) p r = (r.0, open_arguments args (second_holds _ _ p) r.1, open_method (method_named o m) (first_holds _ _ p))
   open_alone (integer n) p r = open_expression (integer n) p r
   open_alone true_literal p r = open_expression true_literal p r
   open_alone false_literal p r = open_expression false_literal p r

@@ -23,11 +23,11 @@ use Rattle.kern_expression_types.specs.Fits.{misfit, declared_wanted, fit, fit_e
 use Rattle.kern_expression_types.specs.Expressions.{variable_verdict, element_verdict, expression_verdict, condition_verdict, fitting_verdict, elements_verdict}
 use Rattle.kern_types.specs.Statements.{at_line, inside_loop, inside_parallel, inside_record, turn_verdict, augmented_verdict, bounds_verdict, assigned_verdict, array_verdict, value_verdict, return_verdict, alone_verdict, element_assigned_verdict, name_augmented_verdict, element_augmented_verdict, range_verdict, loop_verdict, statement_verdict, block_verdict, branches_verdict, handlers_verdict}
 use Rattle.code_forms.specs.Setting as C
-use Rattle.code_forms.specs.Suited.{is_scalar, IsScalarName, IsArrayName, IsSuited, IfThereSuited, EachSuited, IsSuitedStatement, IsSuitedBlock, IsSuitedOtherwise, AreSuitedHandlers}
+use Rattle.code_forms.specs.Suited.{is_scalar, IsSized, IsScalarName, IsArrayName, IsSuited, IfThereSuited, EachSuited, IsSuitedStatement, IsSuitedBlock, IsSuitedOtherwise, AreSuitedHandlers}
 use Rattle.code_suited.proofs.Inverted.{same_found, no_fault, inverted, not_refused, none_refused, was_there, same_type, is_array, integer_given, condition_given, scalar_given, fitting_scalar, takes_array, no_array, array_wanted}
 use Rattle.code_suited.proofs.Expressions.{Found, found_expression}
 use Rattle.code_suited.proofs.Wanted.{wider_scalar}
-use Rattle.code_suited.proofs.NamesGrow.{Kept, kept_same, kept_then, IsSmall, AllSmall, small_found, scalar_small, array_small, kept_scalar, kept_array, Assigned, assigned, array_assigned}
+use Rattle.code_suited.proofs.NamesGrow.{Kept, kept_same, kept_then, AllSmall, small_found, scalar_small, kept_scalar, kept_array, Assigned, assigned, array_assigned}
 
 not_false : (b : Bool) → not b ≡ false → b ≡ true
 not_false true e = refl
@@ -75,10 +75,10 @@ module _ (functions : Functions) (cs : C.Setting) (plain : List Bytes) (callable
       let is = same_found i.2 in
       record { kept = subst (Kept ns) is (kept_same ns); is = sym is; small = subst AllSmall is s }
 
-  sound_assigned : (ns after : Names) (x : Bytes) (value : Option ValueType) (t : ValueType) → AllSmall ns → Assigned ns x value after → value ≡ Some t → IsSmall t → Sound ns after (with_name ns x t)
+  sound_assigned : (ns after : Names) (x : Bytes) (value : Option ValueType) (t : ValueType) → AllSmall ns → Assigned ns x value after → value ≡ Some t → IsSized t → Sound ns after (with_name ns x t)
   sound_assigned ns after x value t s a e own =
       let same : a.type ≡ t = ap (λ o. Rattle.std.specs.Prelude.unwrap_or o t) (sym a.value_is ∙ e) in
-      record { kept = a.grown; is = a.after_is ∙ ap (with_name ns x) same; small = a.small s (subst IsSmall (sym same) own) }
+      record { kept = a.grown; is = a.after_is ∙ ap (with_name ns x) same; small = a.small s (subst IsSized (sym same) own) }
 
   -- the type of a loop's variable
   range_typed : (place : Place) (ns : Names) → AllSmall ns → (from : Option Expression) (to : Expression) → IfThereSpellable from → IsSpellable to → (t : ValueType) → range_verdict functions place ns from to ≡ well t → (range_type (record { program = cs.scope.program; names = ns }) from to ≡ t) × (is_scalar t ≡ true)
@@ -128,12 +128,12 @@ module _ (functions : Functions) (cs : C.Setting) (plain : List Bytes) (callable
     sound_statement (assign_repeated x v n) place ns after k s e =
         let a = inverted (fitting_verdict functions place ns W.Int64 v) (λ z. array_verdict functions place ns x n) after e in
         let r = array_assigned functions place ns x n after a.2 in
-        sound_assigned ns after x (Some (V.Array n)) (V.Array n) s r.0 refl (array_small n r.1)
+        sound_assigned ns after x (Some (V.Array n)) (V.Array n) s r.0 refl r.1
     sound_statement (assign_list x vs) place ns after k s e =
         let a = inverted (elements_verdict functions place ns vs) (λ gs. fit_each place.line W.Int64 gs >>= λ z. array_verdict functions place ns x (length vs)) after e in
         let b = inverted (fit_each place.line W.Int64 a.0) (λ z. array_verdict functions place ns x (length vs)) after a.2 in
         let r = array_assigned functions place ns x (length vs) after b.2 in
-        sound_assigned ns after x (Some (V.Array (length vs))) (V.Array (length vs)) s r.0 refl (array_small (length vs) r.1)
+        sound_assigned ns after x (Some (V.Array (length vs))) (V.Array (length vs)) s r.0 refl r.1
     sound_statement (if_then c b rest) place ns after k s e =
         let a = inverted (condition_verdict functions place ns c) (λ z. block_verdict functions b place ns >>= λ m. branches_verdict functions rest place m) after e in
         let h = inverted (block_verdict functions b place ns) (λ m. branches_verdict functions rest place m) after a.2 in
