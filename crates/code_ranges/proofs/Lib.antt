@@ -1,0 +1,12 @@
+pub mod ExpressionRanges
+pub mod FewTexts
+pub mod Functions
+pub mod InRange
+pub mod LowHeights
+pub mod Methods
+pub mod Operators
+pub mod Rows
+pub mod SpelledTexts
+pub mod StatementFits
+pub mod StatementRanges
+pub mod Straight
