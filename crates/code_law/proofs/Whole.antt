@@ -1,5 +1,5 @@
 -- The code of a checked program does what the program does.
-use Rattle.std.proofs.Common.{◌≡◌, ℕ, zero, suc, ◌+◌, ◌≤◌, List, [], ◌∷◌, length, slice_get, Some, refl, sym, ◌∙◌, ap, subst}
+use Rattle.std.proofs.Common.{◌≡◌, ℕ, zero, suc, ◌+◌, ◌≤◌, List, [], ◌∷◌, length, slice_get, Some, refl, sym, ap, subst}
 use Rattle.std.specs.Prelude.{is_some, unwrap_or, codes}
 use Rattle.std.proofs.lemmas.Bool.{false≢true}
 use Rattle.kern_syntax.specs.Nodes.{program_nodes}
