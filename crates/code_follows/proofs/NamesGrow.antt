@@ -8,7 +8,7 @@ use Rattle.kern_calls.specs.declared.types.ValueType.{ValueType}
 use Rattle.kern_calls.specs.Calls.{look_up}
 use Rattle.kern_calls.specs.Types.{Names, declared_type, with_name, names_after, names_after_block, names_after_otherwise, names_after_handlers, names_of}
 use Rattle.code_follows.specs.Stands.{Fits64}
-use Rattle.code_follows.specs.Lawful.{ArgumentFits, ArgumentsFit}
+use Rattle.kern_arguments.specs.Fitting.{ArgumentFits, ArgumentsFit}
 use Rattle.code_follows.proofs.Variables.{IsScalar}
 use Rattle.code_follows.proofs.Entering.{TakesFirst}
 

@@ -1,10 +1,9 @@
 -- What a run of a function begins with, and what it gives where it is as meant.
-use Rattle.std.specs.Prelude.{◌≡◌, ℕ, ◌<◌, List, [], ◌∷◌, ℤ, pos, slice_get, FitsSigned, Some}
-use Rattle.std.specs.Int.{w32, w64}
+use Rattle.std.specs.Prelude.{◌≡◌, ℕ, List, ℤ, slice_get, FitsSigned, Some}
+use Rattle.std.specs.Int.{w64}
 use Rattle.rtio_types.specs.declared.request.Reply.{Reply}
-use Rattle.kern_syntax.specs.declared.program.DeclaredType.{DeclaredType}
-use Rattle.kern_syntax.specs.declared.program.DeclaredType.TheVariants as D
-use Rattle.kern_syntax.specs.Tree.{ParameterTree, FunctionTree, ProgramTree}
+use Rattle.kern_syntax.specs.Tree.{FunctionTree, ProgramTree}
+use Rattle.kern_arguments.specs.Fitting.{ArgumentsFit}
 use Rattle.timeline_sem.specs.declared.meant.MeantOutcome.{MeantOutcome}
 use Rattle.timeline_sem.specs.declared.meant.MeantOutcome.TheVariants as M
 use Rattle.timeline_sem.specs.Programs.{Meaning, meaning}
@@ -13,19 +12,6 @@ use Rattle.core_isa.specs.Machine.{MachineEnd, returned, raised, budget, unanswe
 use Rattle.core_isa.specs.Runs.{Ran, Runs}
 use Rattle.core_isa.specs.WellAsked.{RepliesFit}
 use Rattle.code_follows.specs.Stands.{AllNumbersFit}
-
--- a number that a parameter of this type can hold
-abbrev pub ArgumentFits : DeclaredType → ℤ → Type 0
-ArgumentFits D.Int32 v = FitsSigned w32 v
-ArgumentFits D.Int64 v = FitsSigned w64 v
-ArgumentFits D.Bool v = (n : ℕ) × (v ≡ pos n) × (n < 2)
-
--- as many arguments as parameters, each of which fits its own
-abbrev pub ArgumentsFit : List ParameterTree → List ℤ → Type 0
-ArgumentsFit [] [] = Unit {0}
-ArgumentsFit (p ∷ ps) (v ∷ vs) = ArgumentFits p.declared v × ArgumentsFit ps vs
-ArgumentsFit [] (v ∷ vs) = ⊥
-ArgumentsFit (p ∷ ps) [] = ⊥
 
 -- the machine's end that an outcome of the meaning is
 abbrev pub machine_end : MeantOutcome → MachineEnd
