@@ -1,0 +1,5 @@
+pub mod Extends
+pub mod Grows
+pub mod Kept
+pub mod Meant
+pub mod Runs
