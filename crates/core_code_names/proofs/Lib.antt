@@ -1,0 +1,4 @@
+pub mod LaidOut
+pub mod Numbers
+pub mod Positions
+pub mod TextsAfter

@@ -1,0 +1,5 @@
+pub mod Numbers
+pub mod Parameters
+pub mod SettingOf
+pub mod Slots
+pub mod TextsAfter
