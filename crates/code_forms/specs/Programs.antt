@@ -2,7 +2,7 @@
 use Rattle.std.specs.Prelude.{ℕ, ◌+◌, max, List, [], ◌∷◌, ◌++◌, length, is_some, unwrap_or, codes}
 use Rattle.kern_syntax.specs.Tree.{Bytes, Statement, augment_element, assign_list, if_then, while_do, for_range, parallel, sequential, record_as, try_do, Block, done, line_then, Otherwise, no_else, else_do, elif_then, Handlers, no_handler, except_then, FunctionTree, ProgramTree}
 use Rattle.kern_expression_types.specs.Before.{is_in}
-use Rattle.kern_types.specs.Plain.{with_plain}
+pub use Rattle.kern_types.specs.PlainFunctions.{plain_names}
 use Rattle.kern_types.specs.Programs.{place_of_function}
 use Rattle.kern_calls.specs.Types.{names_of}
 use Rattle.core_isa.specs.declared.code.Code.{Code}
@@ -88,11 +88,6 @@ functions_code program texts place [] = []
 functions_code program texts place (f ∷ rest) =
     function_code program texts place f
     ++ functions_code program texts (place + function_size program texts f) rest
-
--- the names of the plain functions of a program, after those of earlier ones
-abbrev pub plain_names : (plain : List Bytes) → List FunctionTree → List Bytes
-plain_names plain [] = plain
-plain_names plain (f ∷ rest) = plain_names (with_plain plain f) rest
 
 -- the entry of a function
 abbrev pub entry_of : ProgramTree → (plain : List Bytes) → (place : ℕ) → FunctionTree → CodeFunction

@@ -1,4 +1,5 @@
 pub mod Checked
 pub mod Plain
+pub mod PlainFunctions
 pub mod Programs
 pub mod Statements

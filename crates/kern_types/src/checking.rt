@@ -1,14 +1,15 @@
 // The checker of kernels.
 
-ghost use Rattle.std.specs.Prelude.{◌≡◌, IfOk, IfErr, OnOk, position, bytes_eq};
+ghost use Rattle.std.specs.Prelude.{◌≡◌, IfOk, IfErr, OnOk, [], position, bytes_eq};
 ghost use Rattle.kern_syntax.specs.Grammatical.{IsGrammatical};
 ghost use Rattle.kern_syntax.specs.Spellable.{IsSpellableProgram};
 ghost use Rattle.kern_syntax.specs.TreeOf.{tree_of};
-ghost use Rattle.kern_expression_types.specs.Answers.{IsEndOf};
+ghost use Rattle.kern_expression_types.specs.Answers.{IsEndOf, IsMemory};
+ghost use Rattle.kern_types.specs.PlainFunctions.{plain_names};
 ghost use Rattle.kern_types.specs.Programs.{IsTyped, program_verdict, place_of_function};
 
-use crate::program::check_functions;
-use kern_expression_types::TypeEnd;
+use crate::program::{check_functions, plain_functions};
+use kern_expression_types::{NameList, TypeEnd};
 use kern_syntax::{Function, Program};
 use std::alloc::Global;
 use std::marker::Model;
@@ -67,6 +68,15 @@ impl Checked {
     {
         let place = place_of(self.program.functions(), name)?;
         Some(place as u32)
+    }
+
+    /// The names of the functions that are plain, in the order of the text: those without a live call and without a
+    /// record block, also in what they call. It ends early only for want of memory.
+    pub fn plain_functions(&self, alloc: Global) -> Result<NameList, TypeEnd>
+        ensures names { IfOk result (λ plain. plain ≡ plain_names [] (tree_of self.now)) }
+        ensures memory { IfErr result IsMemory }
+    {
+        plain_functions(alloc, self.program.functions())
     }
 }
 

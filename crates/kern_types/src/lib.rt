@@ -9,4 +9,4 @@ mod program;
 mod statements;
 
 pub use checking::{Checked, check};
-pub use kern_expression_types::{TypeEnd, TypeFault, TypeKind};
+pub use kern_expression_types::{NameList, TypeEnd, TypeFault, TypeKind};

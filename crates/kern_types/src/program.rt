@@ -124,3 +124,18 @@ fn has_no_parameters(function: &Function) -> bool
         [_, ..] => false,
     }
 }
+
+ghost use Rattle.std.specs.Prelude.{[]};
+ghost use Rattle.kern_types.specs.PlainFunctions.{plain_names};
+
+/// The names of the plain functions, in the order of the text.
+pub fn plain_functions(alloc: Global, functions: &[Function]) -> Result<NameList, TypeEnd>
+    ensures names { IfOk result (λ plain. plain ≡ plain_names [] (tree_of functions.now)) }
+    ensures memory { IfErr result IsMemory }
+{
+    let mut plain = NameList::new(alloc);
+    for function in functions.iter() {
+        note_plain(alloc, &mut plain, function)?;
+    }
+    Ok(plain)
+}
