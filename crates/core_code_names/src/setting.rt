@@ -29,7 +29,31 @@ impl<'a> Setting<'a> {
     ghost use Rattle.kern_calls.specs.Calls.{look_up};
     ghost use Rattle.kern_calls.specs.Types.{function_named};
     ghost use Rattle.code_forms.specs.Setting.{slot_of, length_of, index_of_text, index_of_function, has_value};
-    ghost use Rattle.core_code_names.specs.SettingOf.{setting_of};
+    ghost use Rattle.code_forms.specs.Setting.{slots_of_names};
+    ghost use Rattle.core_code_names.specs.SettingOf.{program_of, setting_of};
+
+    /// A function of this program, with these names and texts, that has a value or not.
+    pub fn new(
+        functions: Functions<'a>,
+        names: &'a Names,
+        texts: &'a Texts,
+        value: bool,
+    ) -> Setting<'a>
+        requires few_slots { slots_of_names names.now < 2 ^ 16 }
+        requires few_texts { length texts.now < 2 ^ 16 }
+        ensures { setting_of result ≡ record {
+          scope = record { program = program_of functions.entry; names = names.now };
+          texts = texts.now;
+          value = value;
+        } }
+    {
+        Setting {
+            functions,
+            names,
+            texts,
+            value,
+        }
+    }
 
     /// The type of a name of the function.
     pub fn name_kind(&self, name: &[u8]) -> Option<ValueType>

@@ -1,6 +1,9 @@
 // The names of recordings and datasets.
 
+ghost use Rattle.std.specs.Prelude.{◌≡◌, ◌++◌, [], ◌∷◌, OnOk};
+
 use indexmap::IndexSet;
+use rtio_types::Name;
 use std::alloc::{AllocError, Global};
 use std::marker::Model;
 
@@ -19,7 +22,7 @@ impl Model for Texts {
 }
 
 impl Texts {
-    ghost use Rattle.std.specs.Prelude.{◌≡◌, [], OnOk, bytes_eq, length, position, option_copied, option_map, slice_get};
+    ghost use Rattle.std.specs.Prelude.{◌≡◌, [], IfOk, OnOk, bytes_eq, length, position};
     ghost use Rattle.kern_expression_types.specs.Before.{with_member};
 
     /// No texts.
@@ -51,5 +54,30 @@ impl Texts {
     {
         self.texts.insert(Vec::from_slice(alloc, text)?)?;
         Ok(())
+    }
+
+    /// The texts as names. It ends early for want of memory, and where a text hasn't the form of a name, as each text of a
+    /// program has.
+    pub fn names(&self, alloc: Global) -> Result<Vec<Name>, AllocError>
+        ensures { IfOk result (λ names. names.items ≡ self.now) }
+    {
+        let mut names = Vec::new(alloc);
+        for text in self.texts.as_slice().iter() {
+            push_name(&mut names, text.as_slice())?;
+        }
+        Ok(names)
+    }
+}
+
+// Puts a text of the form of a name behind names.
+fn push_name(names: &mut Vec<Name>, text: &[u8]) -> Result<(), AllocError>
+    ensures { OnOk result (names.new.items ≡ names.old.items ++ text.now ∷ []) }
+{
+    match Name::read(text) {
+        Some(name) => {
+            names.push(name)?;
+            Ok(())
+        }
+        None => Err(AllocError),
     }
 }
