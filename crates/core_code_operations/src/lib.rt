@@ -1,0 +1,14 @@
+//! The instructions of operators, comparisons and calls, once their operands are there.
+#![tactic(auto)]
+
+mod arguments;
+mod calls;
+mod methods;
+mod operators;
+
+pub use arguments::text_in;
+pub use calls::{Callee, callee_of};
+pub use methods::{method_has_value, method_named, method_size, method_type, put_method_instrs};
+pub use operators::{
+    comparison_size, put_comparison, put_not, put_operator, put_unary, wrapped_size,
+};
