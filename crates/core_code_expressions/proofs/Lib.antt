@@ -1,0 +1,4 @@
+pub mod Arguments
+pub mod Falls
+pub mod Put
+pub mod Ready
