@@ -1,0 +1,31 @@
+-- Parts of the sizes of statements, as they are counted.
+use Rattle.std.specs.Prelude.{ℕ, ◌+◌, unwrap_or}
+use Rattle.kern_syntax.specs.Tree.{Bytes, Expression, Statement, if_then, while_do, for_range, parallel, sequential, record_as, try_do, Block, Otherwise}
+use Rattle.kern_calls.specs.Calls.{look_up}
+use Rattle.kern_calls.specs.declared.types.ValueType.{ValueType}
+use Rattle.kern_calls.specs.declared.types.ValueType.TheVariants.{Int64}
+use Rattle.code_forms.specs.Setting.{Setting}
+use Rattle.code_forms.specs.Sizes.{block_size, exit_size, expression_size, otherwise_size, statement_size}
+
+-- the type of a name; int64 of another
+abbrev pub name_type : Setting → Bytes → ValueType
+name_type setting x = unwrap_or (look_up setting.scope.names x) Int64
+
+-- how many instructions a statement without a block has; 0 for one with a block
+abbrev pub simple_size : Setting → (tries kept : ℕ) → Statement → ℕ
+simple_size setting tries kept (if_then c b rest) = 0
+simple_size setting tries kept (while_do c b) = 0
+simple_size setting tries kept (for_range x from to b) = 0
+simple_size setting tries kept (parallel b) = 0
+simple_size setting tries kept (sequential b) = 0
+simple_size setting tries kept (record_as name b) = 0
+simple_size setting tries kept (try_do b handlers) = 0
+simple_size setting tries kept s = statement_size setting tries kept s
+
+-- of a branch: its condition, its jump and its body, without the jump past what follows
+abbrev pub branch_size : Setting → (tries kept : ℕ) → Expression → Block → ℕ
+branch_size setting tries kept c b = expression_size setting c + (1 + block_size setting tries kept b)
+
+-- of what follows a branch, with the jump past it
+abbrev pub followed_size : Setting → (tries kept : ℕ) → Otherwise → ℕ
+followed_size setting tries kept rest = exit_size setting rest + otherwise_size setting tries kept rest
