@@ -1,0 +1,2 @@
+pub mod InsideOf
+pub mod Parts
