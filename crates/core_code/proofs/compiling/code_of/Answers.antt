@@ -1,0 +1,26 @@
+use Rattle.std.proofs.Common.{◌≡◌, ◌≤◌, ◌<◌, ◌^◌, length, sym, subst, ◌∙◌, arith}
+use Rattle.std.proofs.lemmas.List.{length-map}
+use Rattle.kern_syntax.specs.TreeOf.{function_of, tree_of}
+use Rattle.code_forms.specs.Texts.{texts_of}
+use Rattle.code_ranges.proofs.Functions.{few_functions}
+use Rattle.core_code.specs.Ready.{AreReadyFrom}
+use Rattle.core_code.proofs.Put.{ready_from_zero}
+use Rattle.core_code.proofs.compiling.code_of.Goals as goal
+
+pub invariant_of-program : goal.invariant_of-program
+invariant_of-program c =
+    let functions = c.functions-functions.result.now in
+    let same : functions ≡ c.args.checked.now = c.functions-functions.ensures ∙ c.program.ensures.kept in
+    let all : length (tree_of functions) ≤ 256 = subst (λ fs. length (tree_of fs) ≤ 256) (sym same) (few_functions (tree_of c.args.checked.now) c.requires.checked) in
+    let trees : length (tree_of functions) ≡ length functions = length-map functions function_of in
+    let few : length functions < 2 ^ 16 = omega (arith, all, trees) in
+    record { few = few; numbered = c.in_ok-numbers.ensures }
+
+pub put_functions-requires : goal.put_functions-requires
+put_functions-requires c =
+    let functions = c.functions-functions.result.now in
+    let checked = c.args.checked.now in
+    let same : functions ≡ checked = c.functions-functions.ensures ∙ c.program.ensures.kept in
+    let ready : AreReadyFrom (tree_of checked) (texts_of (tree_of checked)) 0 (tree_of checked) = ready_from_zero (tree_of checked) (texts_of (tree_of checked)) (tree_of checked) (c.functions_are_ready.ensures (tree_of checked) c.requires) in
+    let own : AreReadyFrom (tree_of functions) (texts_of (tree_of functions)) 0 (tree_of functions) = subst (λ fs. AreReadyFrom (tree_of fs) (texts_of (tree_of fs)) 0 (tree_of fs)) (sym same) ready in
+    subst (λ texts. AreReadyFrom (tree_of functions) texts 0 (tree_of functions)) (sym c.in_ok-texts.ensures) own
