@@ -4,7 +4,6 @@ use Rattle.std.specs.Prelude.{Option, Some, nat_eq, nat_lt, nat_le, ◌&&◌}
 use Rattle.std.specs.List.{list_all, IsDistinct, AllByRecursion}
 use Rattle.std.specs.List.Sorted.{IsPermutation}
 use Rattle.std.specs.Map.{keys_of}
-use Rattle.std.specs.VecDeque.{deque_capacity}
 use Rattle.std.proofs.lemmas.Bool.Decides.{nat_tests}
 use Rattle.std.proofs.lemmas.List.{get_or-map, length-map, length-set, map-set}
 use Rattle.std.proofs.lemmas.Nat.{mod_below}
@@ -24,7 +23,7 @@ pub record Took (old new : Lane) (number : ℕ) (e : Event) : Type 0 where
   pub held : new.held.items ≡ old.held.items ++ (number, e) ∷ []
   pub last : new.last ≡ Some (cycle_of e)
   pub small : cycle_of e < 2 ^ 60
-  pub room : deque_capacity new.held ≡ deque_capacity old.held
+  pub room : new.held.capacity ≡ old.held.capacity
 
 length-push : (xs : List (ℕ × Event)) (p : ℕ × Event) → length (xs ++ p ∷ []) ≡ length xs + 1
 length-push [] p = refl
@@ -33,7 +32,7 @@ length-push (x ∷ xs) p = let ih = length-push xs p in omega (arith, ih)
 -- it is still a lane, if it had room and the event is later than its last cycle
 pub took-lane : (depth : ℕ) (old new : Lane) (number : ℕ) (e : Event) → IsLane depth old → Took old new number e → length old.held.items < depth → is_later old.last (cycle_of e) ≡ true → IsLane depth new
 took-lane depth old new number e lane took room later = record {
-  room = let cap : deque_capacity new.held ≡ deque_capacity old.held = took.room in let had = lane.room in omega (arith, cap, had);
+  room = let cap : new.held.capacity ≡ old.held.capacity = took.room in let had = lane.room in omega (arith, cap, had);
   fits = let len : length new.held.items ≡ length old.held.items + 1 = ap (λ (l : List (ℕ × Event)). length l) took.held ∙ length-push old.held.items (number, e) in omega (arith, len, room);
   rising = rw took.held (rising-push old.last old.held.items (number, e) lane.rising lane.up_to_last later);
   up_to_last = rw (took.held, took.last) (up-to-push old.last old.held.items (number, e) lane.up_to_last later);

@@ -3,7 +3,6 @@ use Rattle.std.proofs.Common.{◌≡◌, ◌<◌, ◌≤◌, ◌+◌, ◌++◌, 
 use Rattle.std.specs.Prelude.{All, None, flat_map, nat_eq}
 use Rattle.std.specs.List.{IsDistinct}
 use Rattle.std.specs.Map.{keys_of}
-use Rattle.std.specs.VecDeque.{deque_capacity}
 use Rattle.std.proofs.lemmas.List.{length-map}
 use Rattle.std.proofs.lemmas.List.Elements.{All-get_or, All-set}
 use Rattle.std.proofs.lemmas.List.Folds.{length-flat_map-take}
@@ -35,7 +34,7 @@ pub record IsCleared (depth : ℕ) (before : List LaneState) (i : ℕ) (lanes : 
   pub space : room + length items ≡ all
 
 -- one lane more
-pub cleared-more : (depth : ℕ) (before : List LaneState) (i : ℕ) (lanes : List Lane) (old new : Lane) (items more : List (ℕ × Event)) (room left all : ℕ) → i < length before → i < length lanes → old ≡ get_or lanes i old → IsCleared depth before i lanes items room all → row_state new ≡ empty_lane → deque_capacity new.held ≡ deque_capacity old.held → more ≡ items ++ old.held.items → left + length old.held.items ≡ room → IsCleared depth before (i + 1) (set lanes i new) more left all
+pub cleared-more : (depth : ℕ) (before : List LaneState) (i : ℕ) (lanes : List Lane) (old new : Lane) (items more : List (ℕ × Event)) (room left all : ℕ) → i < length before → i < length lanes → old ≡ get_or lanes i old → IsCleared depth before i lanes items room all → row_state new ≡ empty_lane → new.held.capacity ≡ old.held.capacity → more ≡ items ++ old.held.items → left + length old.held.items ≡ room → IsCleared depth before (i + 1) (set lanes i new) more left all
 cleared-more depth before i lanes old new items more room left all lt there is d empty cap moved space =
     let row : row_state old ≡ get_or before i (row_state old) = given-next emptied before i lanes old (row_state old) lt d.given there is in
     let lane : IsLane depth old = subst (IsLane depth) (sym is) (All-get_or (IsLane depth) lanes i old there d.each) in
@@ -51,7 +50,7 @@ cleared-more depth before i lanes old new items more room left all lt there is d
       space = omega (arith, long, space, was);
     }
   where
-    empty-lane : (depth : ℕ) (old new : Lane) → IsLane depth old → deque_capacity new.held ≡ deque_capacity old.held → row_state new ≡ empty_lane → IsLane depth new
+    empty-lane : (depth : ℕ) (old new : Lane) → IsLane depth old → new.held.capacity ≡ old.held.capacity → row_state new ≡ empty_lane → IsLane depth new
     empty-lane depth old new lane cap empty =
         let held : new.held.items ≡ [] = ap (λ (r : LaneState). r.held) empty in
         let last : new.last ≡ None = ap (λ (r : LaneState). r.last) empty in

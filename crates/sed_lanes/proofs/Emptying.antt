@@ -3,7 +3,6 @@ use Rattle.std.proofs.Common.{◌≡◌, ◌<◌, ◌≤◌, ◌+◌, ℕ, zero,
 use Rattle.std.specs.Prelude.{Option, All, filter, flat_map, nat_eq, nat_le, not, ◌==◌, ◌-◌}
 use Rattle.std.specs.List.{list_all, IsDistinct}
 use Rattle.std.specs.Map.{keys_of}
-use Rattle.std.specs.VecDeque.{deque_capacity}
 use Rattle.std.proofs.Math.Seq.{take-append_seam, take-suc}
 use Rattle.std.proofs.lemmas.Grind.{flat_map-append}
 use Rattle.std.proofs.lemmas.List.{drop_all, get_or-append-add, get_or-drop, get_or-map, length-map, length-take-le, map-set, take_all}
@@ -105,7 +104,7 @@ pub record IsDrained (depth cycle : ℕ) (before : List LaneState) (i : ℕ) (la
 pub record GaveOf (cycle : ℕ) (old new : Lane) : Type 0 where
   pub left : new.held.items ≡ filter (λ p. not (cycle_of p.1 == cycle)) old.held.items
   pub last : new.last ≡ old.last
-  pub room : deque_capacity new.held ≡ deque_capacity old.held
+  pub room : new.held.capacity ≡ old.held.capacity
 
 pub filter-short : (test : ℕ × Event → Bool) (ps : List (ℕ × Event)) → length (filter test ps) ≤ length ps
 filter-short test [] = omega arith
@@ -118,7 +117,7 @@ filter-short test (p ∷ ps) = let ih = filter-short test ps in filter-short-at 
 -- it is still a lane
 pub gave-lane : (depth cycle : ℕ) (old new : Lane) → IsLane depth old → GaveOf cycle old new → IsLane depth new
 gave-lane depth cycle old new lane gave = record {
-  room = let cap : deque_capacity new.held ≡ deque_capacity old.held = gave.room in let was = lane.room in omega (arith, cap, was);
+  room = let cap : new.held.capacity ≡ old.held.capacity = gave.room in let was = lane.room in omega (arith, cap, was);
   fits = let short : length (filter (λ p. not (cycle_of p.1 == cycle)) old.held.items) ≤ length old.held.items = filter-short (λ p. not (cycle_of p.1 == cycle)) old.held.items in let was = lane.fits in let same : length new.held.items ≡ length (filter (λ p. not (cycle_of p.1 == cycle)) old.held.items) = ap (λ (ps : List (ℕ × Event)). length ps) gave.left in omega (arith, short, was, same);
   rising = rw gave.left (rising-filter (λ p. not (cycle_of p.1 == cycle)) old.held.items lane.rising);
   up_to_last = rw (gave.left, gave.last) (up-to-filter (λ p. not (cycle_of p.1 == cycle)) old.last old.held.items lane.up_to_last);

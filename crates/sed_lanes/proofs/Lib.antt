@@ -8,6 +8,7 @@ pub mod Standing
 mod Numbered
 pub mod Uniques
 mod Risings
+mod Rings
 mod Takings
 mod Accepting
 mod Made
@@ -24,3 +25,4 @@ pub mod Peaks
 pub mod Waiting
 pub mod RisingLanes
 pub mod Freeing
+pub mod NextCycles

@@ -1,6 +1,6 @@
 -- What is taken out of a lane, and what is left.
-use Rattle.std.proofs.Common.{◌≡◌, ◌≢◌, ◌<◌, ℕ, suc, Bool, true, false, List, [], ◌∷◌, ◌++◌, length, drop, refl, ap, ◌∙◌, sym, arith}
-use Rattle.std.specs.Prelude.{Option, Some, None, filter, not, ◌==◌, nat_le, ◌&&◌, option_to_list}
+use Rattle.std.proofs.Common.{◌≡◌, ◌≢◌, ◌<◌, ℕ, Bool, true, false, List, [], ◌∷◌, drop, refl, ap, ◌∙◌, sym, arith}
+use Rattle.std.specs.Prelude.{Option, None, filter, not, ◌==◌, nat_le, ◌&&◌, option_to_list, slice_get}
 use Rattle.std.specs.List.{list_all}
 use Rattle.std.proofs.lemmas.Bool.Decides.{nat_tests}
 use Rattle.rtio_types.specs.declared.event.Event.{Event}
@@ -20,23 +20,12 @@ pub record IsTaken (cycle : ℕ) (held left : List (ℕ × Event)) (front : Opti
   pub taken : option_to_list front ≡ filter (λ p. cycle_of p.1 == cycle) held
   pub kept : left ≡ filter (λ p. not (cycle_of p.1 == cycle)) held
 
-too-long : (p : ℕ × Event) (hs left : List (ℕ × Event)) → p ∷ hs ≡ left → left ≡ hs → ⊥
-too-long p hs left is rest =
-    let e : suc (length hs) ≡ length hs = ap (λ (l : List (ℕ × Event)). length l) (is ∙ rest) in
-    omega (arith, e)
-
 -- where the first event is of the cycle
-pub taken-first : (cycle : ℕ) (held left : List (ℕ × Event)) (front : Option (ℕ × Event)) → are_rising held ≡ true → first_cycle held ≡ cycle → held ≡ option_to_list front ++ left → left ≡ drop 1 held → IsTaken cycle held left front
-taken-first cycle [] left None rise is items rest = record { taken = refl; kept = sym items }
-taken-first cycle [] left (Some x) rise is items rest = absurd (cc)
-taken-first cycle (p ∷ hs) left None rise is items rest = absurd (too-long p hs left items rest)
-taken-first cycle (p ∷ hs) left (Some x) rise is items rest =
-    let same : x ≡ p = cc in
+pub taken-first : (cycle : ℕ) (held left : List (ℕ × Event)) (front : Option (ℕ × Event)) → are_rising held ≡ true → first_cycle held ≡ cycle → front ≡ slice_get held 0 → left ≡ drop 1 held → IsTaken cycle held left front
+taken-first cycle [] left front rise is first rest = record { taken = ap option_to_list first; kept = rest }
+taken-first cycle (p ∷ hs) left front rise is first rest =
     let others = first-of-cycle cycle p hs rise is in
-    record {
-      taken = ap (λ (y : ℕ × Event). y ∷ []) same ∙ sym others.0;
-      kept = rest ∙ sym others.1;
-    }
+    record { taken = ap option_to_list first ∙ sym others.0; kept = rest ∙ sym others.1 }
 
 -- where it isn't
 pub taken-none : (cycle : ℕ) (held : List (ℕ × Event)) → are_rising held ≡ true → list_all (λ p. nat_le cycle (cycle_of p.1)) held ≡ true → first_cycle held ≢ cycle → IsTaken cycle held held None

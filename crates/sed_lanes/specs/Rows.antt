@@ -1,6 +1,5 @@
 -- A lane as the code keeps it.
 use Rattle.std.specs.Prelude.{ℕ, ◌^◌, ◌≤◌, ◌<◌, All, Bool, true, false, ◌&&◌, List, [], ◌∷◌, IsTrue, Option, Some, None, nat_lt, nat_le, length, flat_map, map, nat_eq}
-use Rattle.std.specs.VecDeque.{deque_capacity}
 use Rattle.std.specs.List.{list_all, IsDistinct}
 use Rattle.std.specs.Map.{keys_of}
 use Rattle.rtio_types.specs.declared.event.Event.{Event}
@@ -30,7 +29,7 @@ is_small (Some last) = nat_lt last (2 ^ 60)
 
 -- a lane of so many places: its events rise up to its last cycle, and they fit
 pub record IsLane (depth : ℕ) (lane : Lane) : Type 0 where
-  pub room : depth ≤ deque_capacity lane.held
+  pub room : depth ≤ lane.held.capacity
   pub fits : length lane.held.items ≤ depth
   pub rising : IsTrue (are_rising lane.held.items)
   pub up_to_last : IsTrue (are_up_to lane.last lane.held.items)

@@ -1,23 +1,23 @@
-// One lane, in the room that it got when it was made.
+// One lane: a ring of the room that it got when it was made.
 
 ghost use Rattle.std.specs.Prelude.{◌≡◌, ◌≤◌, ◌<◌, ◌+◌, ◌^◌, [], ◌∷◌, ◌++◌, IfOk, IsTrue, Some, None, filter, length, nat_le, ◌==◌, not, option_to_list};
 ghost use Rattle.std.specs.List.{list_all};
-ghost use Rattle.std.specs.VecDeque.{deque_capacity, deque_len};
 ghost use Rattle.rtio_types.specs.Time.{cycle_of};
 ghost use Rattle.sed_lanes.specs.Lanes.{is_later};
+ghost use Rattle.sed_lanes.specs.Next.{first_cycle};
 ghost use Rattle.sed_lanes.specs.Rows.{are_rising, row_state};
 ghost use Rattle.sed_lanes.specs.Verdict.{frees_at};
 
 use crate::heads::Heads;
+use circular_buffer::HeapCircularBuffer;
 use rtio_types::{Event, cycle_of};
 use std::alloc::{AllocError, Global};
-use std::collections::VecDeque;
 
 /// The events that a lane holds, with their submission numbers, first come first, and the cycle of the last event that
 /// it took, held or not.
 #[derive(Debug, Drop)]
 pub struct Lane {
-    pub held: VecDeque<(u64, Event)>,
+    pub held: HeapCircularBuffer<(u64, Event)>,
     pub last: Option<u64>,
 }
 
@@ -25,10 +25,10 @@ impl Lane {
     /// A lane that took nothing yet, with room for `depth` events.
     pub fn with_room(alloc: Global, depth: u32) -> Result<Lane, AllocError>
         ensures state { IfOk result (λ lane. row_state lane ≡ record { held = []; last = None }) }
-        ensures room { IfOk result (λ lane. deque_capacity lane.held ≡ depth) }
+        ensures room { IfOk result (λ lane. lane.held.capacity ≡ depth) }
     {
         Ok(Lane {
-            held: VecDeque::with_capacity(alloc, depth as usize)?,
+            held: HeapCircularBuffer::with_capacity(alloc, depth as usize)?,
             last: None,
         })
     }
@@ -60,15 +60,25 @@ impl Lane {
         }
     }
 
+    /// The cycle of the first held event, if one is held.
+    pub fn next_cycle(&self) -> Option<u64>
+        ensures { result ≡ first_cycle (row_state self.now) }
+    {
+        match self.held.front() {
+            None => None,
+            Some((_, event)) => Some(cycle_of(event)),
+        }
+    }
+
     /// Takes an event behind those that it holds.
     pub fn accept(&mut self, number: u64, event: Event)
-        requires { deque_len self.old.held < deque_capacity self.old.held }
+        requires { length self.old.held.items < self.old.held.capacity }
         ensures held { self.new.held.items ≡ self.old.held.items ++ (number, event) ∷ [] }
         ensures last { self.new.last ≡ Some (cycle_of event) }
         ensures small { cycle_of event < 2 ^ 60 }
-        ensures room { deque_capacity self.new.held ≡ deque_capacity self.old.held }
+        ensures room { self.new.held.capacity ≡ self.old.held.capacity }
     {
-        self.held.push_back_reserved((number, event));
+        self.held.push_back((number, event));
         self.last = Some(cycle_of(&event));
     }
 
@@ -79,7 +89,7 @@ impl Lane {
         ensures taken { option_to_list result ≡ filter (λ p. cycle_of p.1 == cycle) self.old.held.items }
         ensures left { self.new.held.items ≡ filter (λ p. not (cycle_of p.1 == cycle)) self.old.held.items }
         ensures last { self.new.last ≡ self.old.last }
-        ensures room { deque_capacity self.new.held ≡ deque_capacity self.old.held }
+        ensures room { self.new.held.capacity ≡ self.old.held.capacity }
     {
         if self.frees_at() == cycle {
             self.held.pop_front()
@@ -98,7 +108,7 @@ impl Lane {
         ensures few { length into.new.items ≤ length into.old.items + 1 }
         ensures left { self.new.held.items ≡ filter (λ p. not (cycle_of p.1 == cycle)) self.old.held.items }
         ensures last { self.new.last ≡ self.old.last }
-        ensures room { deque_capacity self.new.held ≡ deque_capacity self.old.held }
+        ensures room { self.new.held.capacity ≡ self.old.held.capacity }
     {
         match self.take_at(cycle) {
             Some((number, event)) => into.push(number, event),
@@ -112,7 +122,7 @@ impl Lane {
         ensures state { row_state self.new ≡ record { held = []; last = None } }
         ensures moved { into.new.items ≡ into.old.items ++ self.old.held.items }
         ensures left { into.new.room + length self.old.held.items ≡ into.old.room }
-        ensures room { deque_capacity self.new.held ≡ deque_capacity self.old.held }
+        ensures room { self.new.held.capacity ≡ self.old.held.capacity }
     {
         self.last = None;
         while let Some((number, event)) = self.held.pop_front() {

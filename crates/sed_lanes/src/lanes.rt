@@ -6,6 +6,7 @@ ghost use Rattle.sed_lanes.specs.Calls.{Answers, LanesStandFor, after_verdict, a
 ghost use Rattle.sed_lanes.specs.Heads.{by_number};
 ghost use Rattle.sed_lanes.specs.Judged.{Clear, LaneStep, Submit, judged, next_number};
 ghost use Rattle.sed_lanes.specs.Lanes.{empty_lanes, held_events, is_full_lane, lane_at, may_enter, next_lane, with_accepted};
+ghost use Rattle.sed_lanes.specs.Next.{lesser, next_cycle};
 ghost use Rattle.sed_lanes.specs.Verdict.{Undecided, until, verdict};
 
 use crate::heads::Heads;
@@ -142,6 +143,17 @@ impl Lanes {
         held
     }
 
+    /// The least cycle of a held event. None where no lane holds one.
+    pub fn next_cycle(&self) -> Option<u64>
+        ensures { result ≡ next_cycle self.now }
+    {
+        let mut next = None;
+        for lane in &self.lanes {
+            next = lesser(next, lane.next_cycle());
+        }
+        next
+    }
+
     /// Until when an event has to wait at this counter of cycles: the least cycle that frees a lane which it may enter.
     /// None where the verdict on it stands at the counter.
     pub fn wait(&self, counter: u64, event: &Event) -> Option<u64>
@@ -226,5 +238,16 @@ impl Lanes {
             lane.empty_into(into);
         }
         into.sort_by_number();
+    }
+}
+
+// The lesser of two numbers, where one may be missing.
+fn lesser(one: Option<u64>, other: Option<u64>) -> Option<u64>
+    ensures { result ≡ lesser one other }
+{
+    match (one, other) {
+        (Some(one), Some(other)) => Some(one.min(other)),
+        (one, None) => one,
+        (None, other) => other,
     }
 }

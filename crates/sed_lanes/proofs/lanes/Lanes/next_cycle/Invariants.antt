@@ -1,0 +1,6 @@
+use Rattle.std.proofs.Common.{◌≡◌, take}
+use Rattle.sed_lanes.proofs.NextCycles.{least_in}
+use Rattle.sed_lanes.proofs.lanes.Lanes.next_cycle.Given as goal
+
+abbrev pub invariant-loop-lane : goal.invariant-loop-lane
+invariant-loop-lane l = l.next ≡ least_in (take l.lane-index l.lane-items)
