@@ -9,11 +9,12 @@ use Rattle.std.proofs.lemmas.Slice.Eq.{bytes_eq-Decides}
 use Rattle.indexmap.specs.IndexMap.{insert_entry}
 use Rattle.rtio_types.specs.Recordings.{Recorded}
 use Rattle.dma_store.specs.Kept.{is_named, is_playable, resaved, handle_of}
-use Rattle.dma_store.specs.Fields.{Key, same_key, by_name}
+use Rattle.dma_store.specs.declared.key.Key.{Key}
+use Rattle.dma_store.specs.Fields.{same_key, by_name}
 
 -- the key is the name
 abbrev pub is_key : List ℕ → Key → Bool
-is_key name key = bytes_eq name key.items
+is_key name key = bytes_eq name key.name
 
 -- what is found of what stands under a test
 option_map-cond : {A B : Type 0} (f : A → B) (test : Bool) (a : A) (rest : Option A) → option_map f (cond test (Some a) rest) ≡ cond test (Some (f a)) (option_map f rest)
@@ -24,7 +25,7 @@ option_map-cond f false a rest = refl
 pub find-by_name : (name : List ℕ) (entries : List (Key × Recorded)) → option_map (λ entry. entry.1) (find (is_named name) (by_name entries)) ≡ lookup (is_key name) entries
 find-by_name name [] = refl
 find-by_name name (entry ∷ entries) =
-    option_map-cond (λ e. e.1) (is_key name entry.0) (entry.0.items, entry.1) (find (is_named name) (by_name entries)) ∙ ap (λ rest. cond (is_key name entry.0) (Some entry.1) rest) (find-by_name name entries)
+    option_map-cond (λ e. e.1) (is_key name entry.0) (entry.0.name, entry.1) (find (is_named name) (by_name entries)) ∙ ap (λ rest. cond (is_key name entry.0) (Some entry.1) rest) (find-by_name name entries)
 
 -- whether a name is kept
 pub list_any-by_name : (name : List ℕ) (entries : List (Key × Recorded)) → list_any (is_named name) (by_name entries) ≡ list_any (is_key name) (keys_of entries)
@@ -59,7 +60,7 @@ filter-lacking name (entry ∷ entries) lacks = rw (lacks.0, filter-lacking name
 -- behind a key that is the name there is no other
 lacks_behind : (name : List ℕ) (entry : Key × Recorded) (entries : List (Key × Recorded)) → IsDistinct same_key (keys_of (entry ∷ entries)) → is_key name entry.0 ≡ true → LacksKey name entries
 lacks_behind name entry entries distinct is =
-    subst (λ bytes. LacksKey bytes entries) (sym ((bytes_eq-Decides name entry.0.items).0 is)) (IsDistinct-head same_key entry.0 (keys_of entries) distinct)
+    subst (λ bytes. LacksKey bytes entries) (sym ((bytes_eq-Decides name entry.0.name).0 is)) (IsDistinct-head same_key entry.0 (keys_of entries) distinct)
 
 -- the entries after a recording was saved under a name
 abbrev pub resaved_entries : List ℕ → Recorded → List (List ℕ × Recorded) → List (List ℕ × Recorded)
@@ -77,19 +78,19 @@ resaved-behind name recording entry entries isnt = rw isnt (by (list_any (is_nam
     by false = refl
 
 -- a recording that is inserted
-pub insert-by_name : (entries : List (Key × Recorded)) (key : Key) (recording : Recorded) → IsDistinct same_key (keys_of entries) → by_name (insert_entry same_key entries key recording) ≡ resaved_entries key.items recording (by_name entries)
+pub insert-by_name : (entries : List (Key × Recorded)) (key : Key) (recording : Recorded) → IsDistinct same_key (keys_of entries) → by_name (insert_entry same_key entries key recording) ≡ resaved_entries key.name recording (by_name entries)
 insert-by_name [] key recording distinct = refl
 insert-by_name (entry ∷ entries) key recording distinct =
     by (same_key key entry.0) refl (insert-by_name entries key recording (IsDistinct-tail same_key entry.0 (keys_of entries) distinct))
   where
-    by : (b : Bool) → same_key key entry.0 ≡ b → by_name (insert_entry same_key entries key recording) ≡ resaved_entries key.items recording (by_name entries) → by_name (insert_entry same_key (entry ∷ entries) key recording) ≡ resaved_entries key.items recording (by_name (entry ∷ entries))
+    by : (b : Bool) → same_key key entry.0 ≡ b → by_name (insert_entry same_key entries key recording) ≡ resaved_entries key.name recording (by_name entries) → by_name (insert_entry same_key (entry ∷ entries) key recording) ≡ resaved_entries key.name recording (by_name (entry ∷ entries))
     by true is rest =
-        let same : key.items ≡ entry.0.items = (bytes_eq-Decides key.items entry.0.items).0 is in
-        let others = map-lacking key.items recording entries (lacks_behind key.items entry entries distinct is) in
+        let same : key.name ≡ entry.0.name = (bytes_eq-Decides key.name entry.0.name).0 is in
+        let others = map-lacking key.name recording entries (lacks_behind key.name entry entries distinct is) in
         rw is (rw (others, same) refl)
     by false isnt rest =
-        let front : by_name (insert_entry same_key (entry ∷ entries) key recording) ≡ (entry.0.items, entry.1) ∷ by_name (insert_entry same_key entries key recording) = rw isnt refl in
-        front ∙ ap (λ others. (entry.0.items, entry.1) ∷ others) rest ∙ sym (resaved-behind key.items recording (entry.0.items, entry.1) (by_name entries) isnt)
+        let front : by_name (insert_entry same_key (entry ∷ entries) key recording) ≡ (entry.0.name, entry.1) ∷ by_name (insert_entry same_key entries key recording) = rw isnt refl in
+        front ∙ ap (λ others. (entry.0.name, entry.1) ∷ others) rest ∙ sym (resaved-behind key.name recording (entry.0.name, entry.1) (by_name entries) isnt)
 
 -- a name that is removed
 pub remove-by_name : (entries : List (Key × Recorded)) (name : List ℕ) → IsDistinct same_key (keys_of entries) → by_name (remove_entry (is_key name) entries) ≡ filter (λ entry. not (is_named name entry)) (by_name entries)
@@ -99,7 +100,7 @@ remove-by_name (entry ∷ entries) name distinct =
   where
     by : (b : Bool) → is_key name entry.0 ≡ b → by_name (remove_entry (is_key name) entries) ≡ filter (λ other. not (is_named name other)) (by_name entries) → by_name (remove_entry (is_key name) (entry ∷ entries)) ≡ filter (λ other. not (is_named name other)) (by_name (entry ∷ entries))
     by true is rest = rw is (sym (filter-lacking name entries (lacks_behind name entry entries distinct is)))
-    by false isnt rest = rw isnt (ap (λ others. (entry.0.items, entry.1) ∷ others) rest)
+    by false isnt rest = rw isnt (ap (λ others. (entry.0.name, entry.1) ∷ others) rest)
 
 -- the recordings may all be kept
 abbrev pub AllPlayable : List (Key × Recorded) → Type 0

@@ -1,9 +1,8 @@
 -- Rows that were worked out by hand, computed from the definitions.
-use Rattle.std.proofs.Common.{◌≡◌, ℕ, ◌*◌, ◌+◌, List, [], ◌∷◌, ◌++◌, take, None, Some, true, pos, negsuc, refl}
-use Rattle.std.specs.Prelude.{codes, slice_set}
+use Rattle.std.proofs.Common.{◌≡◌, ◌*◌, ◌+◌, [], ◌∷◌, Some, true, pos, negsuc, refl}
+use Rattle.std.specs.Prelude.{codes}
 use Rattle.rtio_types.specs.Recordings.{Recorded}
-use Rattle.dma_store.specs.Kept.{KeptState, no_recordings, saved, erased, handle_of, is_old, recording_handled}
-use Rattle.dma_store.specs.Spelling.{spelling, first_wrong}
+use Rattle.dma_store.specs.Kept.{KeptState, kept_first, no_recordings, saved, handed_in, erased, handle_of, is_old, name_at, recording_handled}
 
 -- a pulse of 50 mu on channel 0, in a block of 80 mu
 pulse : Recorded
@@ -17,48 +16,6 @@ pulse =
 -- a block of nothing that moves the cursor back by 1 mu
 back : Recorded
 back = record { events = []; length = negsuc 0 }
-
-pulse_bytes : List ℕ
-pulse_bytes =
-    1 ∷ 2 ∷ 0 ∷ 0 ∷ 0 ∷ 80 ∷ 0 ∷ 0 ∷ 0 ∷ 0 ∷ 0 ∷ 0 ∷ 0
-    ∷ 0 ∷ 0 ∷ 1 ∷ 0 ∷ 0 ∷ 0 ∷ 0 ∷ 0 ∷ 0 ∷ 0 ∷ 0 ∷ 0 ∷ 0 ∷ 0
-    ∷ 0 ∷ 0 ∷ 0 ∷ 0 ∷ 0 ∷ 0 ∷ 50 ∷ 0 ∷ 0 ∷ 0 ∷ 0 ∷ 0 ∷ 0 ∷ 0
-    ∷ []
-
-the_bytes_of_a_pulse : spelling pulse ≡ pulse_bytes
-unfolding pulse pulse_bytes
-the_bytes_of_a_pulse = refl
-
-a_negative_length : spelling back ≡ 1 ∷ 0 ∷ 0 ∷ 0 ∷ 0 ∷ 255 ∷ 255 ∷ 255 ∷ 255 ∷ 255 ∷ 255 ∷ 255 ∷ 255 ∷ []
-unfolding back
-a_negative_length = refl
-
-nothing_is_wrong : first_wrong pulse_bytes ≡ None
-unfolding pulse_bytes
-nothing_is_wrong = refl
-
-no_bytes : first_wrong [] ≡ Some 0
-no_bytes = refl
-
-another_format : first_wrong (slice_set pulse_bytes 0 0) ≡ Some 0
-unfolding pulse_bytes
-another_format = refl
-
-a_channel_off_the_board : first_wrong (slice_set pulse_bytes 13 32) ≡ Some 13
-unfolding pulse_bytes
-a_channel_off_the_board = refl
-
-an_address_off_the_board : first_wrong (slice_set pulse_bytes 14 1) ≡ Some 14
-unfolding pulse_bytes
-an_address_off_the_board = refl
-
-the_last_field_is_cut_off : first_wrong (take 40 pulse_bytes) ≡ Some 33
-unfolding pulse_bytes
-the_last_field_is_cut_off = refl
-
-a_byte_behind_the_last_field : first_wrong (pulse_bytes ++ 0 ∷ []) ≡ Some 41
-unfolding pulse_bytes
-a_byte_behind_the_last_field = refl
 
 -- three names, and the second saved again
 three : KeptState
@@ -87,3 +44,19 @@ an_earlier_epoch = refl
 a_negative_handle : is_old three (negsuc 0) ≡ true
 unfolding three
 a_negative_handle = refl
+
+-- b and a, handed in, and then b saved
+begun : KeptState
+begun = saved (handed_in (handed_in no_recordings (codes "b") pulse) (codes "a") back) (codes "b") back
+
+handed_in_first : handed_in (handed_in no_recordings (codes "b") pulse) (codes "a") back ≡ kept_first ((codes "b", pulse) ∷ (codes "a", back) ∷ [])
+unfolding pulse back
+handed_in_first = refl
+
+a_name_that_was_handed_in_keeps_its_place : name_at begun 0 ≡ Some (codes "b")
+unfolding begun
+a_name_that_was_handed_in_keeps_its_place = refl
+
+one_save_is_one_epoch : handle_of begun (codes "a") ≡ Some (pos (1 * 4096 + 1))
+unfolding begun
+one_save_is_one_epoch = refl

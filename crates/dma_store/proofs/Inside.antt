@@ -1,5 +1,5 @@
 -- What the calls of a store leave, from what the map of its recordings leaves.
-use Rattle.std.proofs.Common.{◌≡◌, ℕ, suc, ◌+◌, ◌<◌, ◌≤◌, Bool, true, false, not, ◌&&◌, ◌||◌, List, [], ◌∷◌, length, Option, None, Some, is_some, IsTrue, IfSome, Bor, nat_le, refl, sym, ap, ◌∙◌, arith}
+use Rattle.std.proofs.Common.{◌≡◌, ℕ, suc, ◌+◌, ◌<◌, ◌≤◌, Bool, true, false, not, ◌&&◌, ◌||◌, List, [], ◌∷◌, ◌++◌, length, map, Option, None, Some, is_some, IsTrue, IfSome, Bor, nat_le, refl, sym, ap, ◌∙◌, arith}
 use Rattle.std.specs.Prelude.{if◌then◌else◌}
 use Rattle.std.specs.List.{list_any, IsDistinct}
 use Rattle.std.specs.Map.{lookup, keys_of, remove_entry}
@@ -7,8 +7,9 @@ use Rattle.std.specs.Option.{option_copied}
 use Rattle.std.proofs.lemmas.Bool.Decides.{nat_tests}
 use Rattle.indexmap.specs.IndexMap.{insert_entry}
 use Rattle.rtio_types.specs.Recordings.{Recorded}
-use Rattle.dma_store.specs.Kept.{KeptState, is_playable, is_kept, is_full_for, next_epoch, saved, erased}
-use Rattle.dma_store.specs.Fields.{Key, same_key, by_name, IsStoreInside}
+use Rattle.dma_store.specs.Kept.{KeptState, handed_in, is_named, is_playable, is_kept, is_full_for, next_epoch, resaved, saved, erased}
+use Rattle.dma_store.specs.declared.key.Key.{Key}
+use Rattle.dma_store.specs.Fields.{same_key, by_name, IsStoreInside}
 use Rattle.dma_store.proofs.Entries.{is_key, AllPlayable, length-by_name, list_any-by_name, is_kept-by_name, insert-by_name, remove-by_name, playable-lookup, playable-insert, playable-remove}
 
 -- the store with these fields
@@ -35,10 +36,10 @@ full-by_name entries epoch name kept full is =
     rw (names, length-names entries, taken) refl
 
 -- how many entries there are after one is inserted
-length-insert : (entries : List (Key × Recorded)) (key : Key) (recording : Recorded) → length (insert_entry same_key entries key recording) ≡ (if list_any (is_key key.items) (keys_of entries) then length entries else length entries + 1)
+length-insert : (entries : List (Key × Recorded)) (key : Key) (recording : Recorded) → length (insert_entry same_key entries key recording) ≡ (if list_any (is_key key.name) (keys_of entries) then length entries else length entries + 1)
 length-insert [] key recording = refl
 length-insert (entry ∷ entries) key recording =
-    by (same_key key entry.0) refl (list_any (is_key key.items) (keys_of entries)) (length-insert entries key recording)
+    by (same_key key entry.0) refl (list_any (is_key key.name) (keys_of entries)) (length-insert entries key recording)
   where
     by : (b : Bool) → same_key key entry.0 ≡ b → (c : Bool) → length (insert_entry same_key entries key recording) ≡ (if c then length entries else length entries + 1) → length (insert_entry same_key (entry ∷ entries) key recording) ≡ (if same_key key entry.0 || c then length (entry ∷ entries) else length (entry ∷ entries) + 1)
     by true is c rest = rw is refl
@@ -46,8 +47,8 @@ length-insert (entry ∷ entries) key recording =
     by false isnt false rest = rw isnt (ap suc rest ∙ omega arith)
 
 -- there are no more than 4,096 after one is inserted, if there was a place
-few-insert : (entries : List (Key × Recorded)) (key : Key) (recording : Recorded) → length entries ≤ 4096 → nat_le 4096 (length entries) && not (list_any (is_key key.items) (keys_of entries)) ≡ false → length (insert_entry same_key entries key recording) ≤ 4096
-few-insert entries key recording few = by (list_any (is_key key.items) (keys_of entries)) (length-insert entries key recording)
+few-insert : (entries : List (Key × Recorded)) (key : Key) (recording : Recorded) → length entries ≤ 4096 → nat_le 4096 (length entries) && not (list_any (is_key key.name) (keys_of entries)) ≡ false → length (insert_entry same_key entries key recording) ≤ 4096
+few-insert entries key recording few = by (list_any (is_key key.name) (keys_of entries)) (length-insert entries key recording)
   where
     by : (b : Bool) → length (insert_entry same_key entries key recording) ≡ (if b then length entries else length entries + 1) → nat_le 4096 (length entries) && not b ≡ false → length (insert_entry same_key entries key recording) ≤ 4096
     by true is place = omega arith
@@ -58,17 +59,37 @@ few-insert entries key recording few = by (list_any (is_key key.items) (keys_of 
         by_test false free place = let below : length entries < 4096 = grind (arith, nat_tests) in omega arith
 
 -- the fields after a save
-pub inside-saved : (entries new : List (Key × Recorded)) (epoch next : ℕ) (key : Key) (recording : Recorded) → IsStoreInside entries epoch → is_full_for (store_of entries epoch) key.items ≡ false → IsTrue (is_playable recording) → IsDistinct same_key (keys_of new) → new ≡ insert_entry same_key entries key recording → next ≡ next_epoch epoch → IsStoreInside new next
+pub inside-saved : (entries new : List (Key × Recorded)) (epoch next : ℕ) (key : Key) (recording : Recorded) → IsStoreInside entries epoch → is_full_for (store_of entries epoch) key.name ≡ false → IsTrue (is_playable recording) → IsDistinct same_key (keys_of new) → new ≡ insert_entry same_key entries key recording → next ≡ next_epoch epoch → IsStoreInside new next
 inside-saved entries new epoch next key recording inside place playable distinct inserted is =
-    let free = rw (length-names entries, list_any-by_name key.items entries) at place in
+    let free = rw (length-names entries, list_any-by_name key.name entries) at place in
     let few : length new ≤ 4096 = rw inserted (few-insert entries key recording inside.few free) in
     let all : AllPlayable new = rw inserted (playable-insert entries key recording inside.playable playable) in
     record { distinct = distinct; few = few; playable = all; in_range = rw is (omega arith) }
 
 -- what a save leaves
-pub saved-view : (entries new : List (Key × Recorded)) (epoch next : ℕ) (key : Key) (name : List ℕ) (recording : Recorded) → IsDistinct same_key (keys_of entries) → new ≡ insert_entry same_key entries key recording → key.items ≡ name → next ≡ next_epoch epoch → store_of new next ≡ saved (store_of entries epoch) name recording
+pub saved-view : (entries new : List (Key × Recorded)) (epoch next : ℕ) (key : Key) (name : List ℕ) (recording : Recorded) → IsDistinct same_key (keys_of entries) → new ≡ insert_entry same_key entries key recording → key.name ≡ name → next ≡ next_epoch epoch → store_of new next ≡ saved (store_of entries epoch) name recording
 saved-view entries new epoch next key name recording distinct inserted items is =
     rw (inserted, insert-by_name entries key recording distinct, items, is) refl
+
+-- what an insert of a new name leaves
+inserted-new : (entries : List (Key × Recorded)) (key : Key) (recording : Recorded) → IsDistinct same_key (keys_of entries) → list_any (is_named key.name) (by_name entries) ≡ false → by_name (insert_entry same_key entries key recording) ≡ by_name entries ++ (key.name, recording) ∷ []
+inserted-new entries key recording distinct absent =
+    insert-by_name entries key recording distinct ∙ ap (λ b. if b then map (resaved key.name recording) (by_name entries) else by_name entries ++ (key.name, recording) ∷ []) absent
+
+-- what stands when a recording was handed in
+pub handed-view : (entries new : List (Key × Recorded)) (epoch : ℕ) (key : Key) (recording : Recorded) → IsDistinct same_key (keys_of entries) → is_kept (store_of entries epoch) key.name ≡ false → new ≡ insert_entry same_key entries key recording → store_of new epoch ≡ handed_in (store_of entries epoch) key.name recording
+handed-view entries new epoch key recording distinct absent inserted =
+    ap (λ es. record { entries = es; epoch = epoch }) (ap by_name inserted ∙ inserted-new entries key recording distinct absent)
+
+-- the fields after a recording was handed in
+pub inside-handed : (entries new : List (Key × Recorded)) (epoch : ℕ) (key : Key) (recording : Recorded) → IsStoreInside entries epoch → is_kept (store_of entries epoch) key.name ≡ false → length (by_name entries) < 4096 → IsTrue (is_playable recording) → IsDistinct same_key (keys_of new) → new ≡ insert_entry same_key entries key recording → IsStoreInside new epoch
+inside-handed entries new epoch key recording inside absent place playable distinct inserted =
+    let missing : list_any (is_key key.name) (keys_of entries) ≡ false = sym (list_any-by_name key.name entries) ∙ absent in
+    let longer : length (insert_entry same_key entries key recording) ≡ length entries + 1 = length-insert entries key recording ∙ ap (λ b. if b then length entries else length entries + 1) missing in
+    let names = length-names entries in
+    let few : length new ≤ 4096 = rw inserted (omega arith) in
+    let all : AllPlayable new = rw inserted (playable-insert entries key recording inside.playable playable) in
+    record { distinct = distinct; few = few; playable = all; in_range = inside.in_range }
 
 length-remove : (entries : List (Key × Recorded)) (name : List ℕ) → length (remove_entry (is_key name) entries) ≤ length entries
 length-remove [] name = omega arith

@@ -1,22 +1,18 @@
 -- What the fields of a store keep to.
-use Rattle.std.specs.Prelude.{ℕ, ◌<◌, ◌≤◌, ◌^◌, Bool, List, length, map, IsTrue, bytes_eq, Vec}
-use Rattle.std.specs.Global.{Global}
+use Rattle.std.specs.Prelude.{ℕ, ◌<◌, ◌≤◌, ◌^◌, Bool, List, length, map, IsTrue, bytes_eq}
 use Rattle.std.specs.List.{list_all, IsDistinct}
 use Rattle.std.specs.Map.{keys_of}
 use Rattle.rtio_types.specs.Recordings.{Recorded}
+use Rattle.dma_store.specs.declared.key.Key.{Key}
 use Rattle.dma_store.specs.Kept.{is_playable}
 
--- a name in memory
-abbrev pub Key : Type 0
-Key = Vec ℕ Global
-
--- two of them are the same
+-- two names are the same
 abbrev pub same_key : Key → Key → Bool
-same_key a b = bytes_eq a.items b.items
+same_key a b = bytes_eq a.name b.name
 
 -- the entries by their names
 abbrev pub by_name : List (Key × Recorded) → List (List ℕ × Recorded)
-by_name entries = map (λ entry. (entry.0.items, entry.1)) entries
+by_name entries = map (λ entry. (entry.0.name, entry.1)) entries
 
 -- the names differ, there are at most 4,096, their recordings may be kept, and the epoch is in its range
 pub record IsStoreInside (entries : List (Key × Recorded)) (epoch : ℕ) : Type 0 where

@@ -1,23 +1,23 @@
 -- Recordings kept by name, in the order of first saving.
-use Rattle.std.specs.Prelude.{ℕ, ◌+◌, ◌*◌, ◌%◌, ◌^◌, Bool, not, ◌&&◌, ◌||◌, List, [], ◌∷◌, ◌++◌, length, filter, find, position, slice_get, map, bytes_eq, nat_lt, nat_le, ℤ, pos, if◌then◌else◌, Option, None, option_map, unsigned_abs}
+use Rattle.std.specs.Prelude.{ℕ, ◌+◌, ◌*◌, ◌%◌, ◌^◌, Bool, not, ◌&&◌, ◌||◌, List, [], ◌∷◌, ◌++◌, length, filter, find, position, slice_get, map, bytes_eq, nat_le, ℤ, pos, if◌then◌else◌, Option, None, option_map, unsigned_abs}
 use Rattle.std.specs.List.{list_any}
 use Rattle.std.specs.Int.{int_div_euclid, int_rem_euclid}
 use Rattle.std.specs.Ordering.{int_eq}
-use Rattle.rtio_types.specs.Board.{are_of_board}
 use Rattle.rtio_types.specs.Recordings.{Recorded}
+pub use Rattle.recording_bytes.specs.Playable.{is_playable}
 
 -- the names with their recordings in order, and how many saves and erases succeeded, modulo 2^50
 pub record KeptState : Type 0 where
   pub entries : List (List ℕ × Recorded)
   pub epoch : ℕ
 
--- what may be kept: fewer than 2^32 events, each of the board
-abbrev pub is_playable : Recorded → Bool
-is_playable recording = nat_lt (length recording.events) (2 ^ 32) && are_of_board recording.events
-
 -- nothing is kept yet
 abbrev pub no_recordings : KeptState
 no_recordings = record { entries = []; epoch = 0 }
+
+-- what a core begins with: the recordings that it was handed in
+abbrev pub kept_first : List (List ℕ × Recorded) → KeptState
+kept_first entries = record { entries = entries; epoch = 0 }
 
 -- the entry is that of the name
 abbrev pub is_named : List ℕ → List ℕ × Recorded → Bool
@@ -48,6 +48,14 @@ saved kept name recording =
           else kept.entries ++ (name, recording) ∷ [];
       epoch = next_epoch kept.epoch;
     }
+
+-- what stands when a recording was handed in: it goes last, and the epoch stays
+abbrev pub handed_in : KeptState → List ℕ → Recorded → KeptState
+handed_in kept name recording = record kept { entries = kept.entries ++ (name, recording) ∷ [] }
+
+-- the name at a position
+abbrev pub name_at : KeptState → ℕ → Option (List ℕ)
+name_at kept position = option_map (λ entry. entry.0) (slice_get kept.entries position)
 
 -- what an erase leaves: the entries of the other names
 abbrev pub erased : KeptState → List ℕ → KeptState

@@ -1,4 +1,2 @@
 pub mod Kept
 pub mod Fields
-pub mod Spelling
-pub mod Reading

@@ -1,9 +1,8 @@
-// What holds of every store, and of all recording bytes.
+// What holds of every store.
 
-ghost use Rattle.std.specs.Prelude.{◌≡◌, ◌≢◌, ◌<◌, ◌≤◌, ◌^◌, ◌++◌, ◌↔◌, ℕ, ℤ, List, [], None, Some, length, slice_index, bytes_eq, if◌then◌else◌, IsTrue};
+ghost use Rattle.std.specs.Prelude.{◌≡◌, ◌≢◌, ◌<◌, ◌≤◌, ◌^◌, ℕ, ℤ, List, None, Some, length, bytes_eq, if◌then◌else◌, IsTrue};
 ghost use Rattle.rtio_types.specs.Recordings.{Recorded};
 ghost use Rattle.dma_store.specs.Kept.{KeptState, erased, handle_of, is_old, next_epoch, recording_handled, recording_named, saved};
-ghost use Rattle.dma_store.specs.Spelling.{IsSpelling, first_wrong, spelling};
 
 /// A name fetches what was saved under it last, and a save under another name changes nothing of that.
 pub fn a_save_is_fetched()
@@ -28,21 +27,4 @@ pub fn handles_grow_old()
     ensures old { (kept later : KeptState) (name : List ℕ) (handle : ℤ) → length kept.entries ≤ 4096 →
         handle_of kept name ≡ Some handle → later.epoch ≢ kept.epoch → IsTrue (is_old later handle) }
     ensures other { (epoch : ℕ) → epoch < 2 ^ 50 → next_epoch epoch ≢ epoch }
-{}
-
-/// Bytes have no wrong field exactly where they spell a recording.
-pub fn right_bytes_are_spellings()
-    ensures { (bytes : List ℕ) → ((i : ℕ) → slice_index bytes i < 256) →
-        (first_wrong bytes ≡ None) ↔ ((recording : Recorded) × IsSpelling bytes recording) }
-{}
-
-/// The same bytes spell one recording at most.
-pub fn a_spelling_has_one_recording()
-    ensures { (bytes : List ℕ) (first second : Recorded) → IsSpelling bytes first → IsSpelling bytes second → first ≡ second }
-{}
-
-/// No spelling begins another one.
-pub fn no_spelling_begins_another()
-    ensures { (front rest : List ℕ) (first second : Recorded) → IsSpelling front first → IsSpelling (front ++ rest) second →
-        rest ≡ [] }
 {}

@@ -1,11 +1,12 @@
 // The recordings of a core.
 
-ghost use Rattle.std.specs.Prelude.{◌≡◌, ◌↔◌, ◌<◌, ◌≤◌, ◌^◌, ℕ, length, None, Some, is_none, IsOk, IsTrue, IfOk, IfSome, OnOk, OnErr};
+ghost use Rattle.std.specs.Prelude.{◌≡◌, ◌↔◌, ◌<◌, ◌≤◌, ◌^◌, ℕ, false, length, None, Some, is_none, IsOk, IsTrue, IfOk, IfSome, OnOk, OnErr};
 ghost use Rattle.std.specs.Option.{option_copied};
 ghost use Rattle.std.specs.Result.{result_ok};
-ghost use Rattle.dma_store.specs.Kept.{is_playable, no_recordings, is_kept, is_full_for, is_old, next_epoch, saved, erased};
+ghost use Rattle.dma_store.specs.Kept.{is_playable, no_recordings, is_kept, is_full_for, is_old, next_epoch, saved, handed_in, name_at, erased};
 ghost use Rattle.dma_store.specs.Kept.{recording_named, recording_handled, handle_of};
 
+use crate::key::Key;
 use indexmap::IndexMap;
 use rtio_types::{Name, Recording};
 use std::alloc::{AllocError, AllocFailed, Global};
@@ -93,11 +94,12 @@ impl From<AllocError> for HandleEnd {
     }
 }
 
-/// The recordings of a core by name, in the order of first saving, and the epoch: how many saves and erases succeeded,
+/// The recordings of a core by name, first those that were handed in and then the others in the order of first saving,
+/// and the epoch: how many saves and erases succeeded,
 /// modulo 2^50. Contracts see it as that list and that number.
 #[derive(Debug, Drop)]
 pub struct Store {
-    recordings: IndexMap<Vec<u8>, Recording>,
+    recordings: IndexMap<Key, Recording>,
     epoch: u64,
 }
 
@@ -136,17 +138,54 @@ impl Store {
             return Err(SaveEnd::Full);
         }
         let kept = recording.copy(alloc)?;
-        let key = Vec::from_slice(alloc, name.bytes())?;
-        self.recordings.insert(key, kept)?;
+        self.recordings.insert(Key { name: *name }, kept)?;
         self.epoch = next_epoch(self.epoch);
         Ok(())
+    }
+
+    /// Keeps a copy of a recording of an earlier day, behind those that were handed in before; the epoch stays 0. The
+    /// recording has fewer than 2^32 events, each of the board. The only error is want of memory.
+    pub fn hand_in(
+        &mut self,
+        alloc: Global,
+        name: &Name,
+        recording: &Recording,
+    ) -> Result<(), AllocError>
+        requires epoch { self.old.epoch ≡ 0 }
+        requires new { is_kept self.old name.now ≡ false }
+        requires place { length self.old.entries < 4096 }
+        requires playable { IsTrue (is_playable recording.now) }
+        ensures ok { OnOk result (self.new ≡ handed_in self.old name.now recording.now) }
+        ensures err { OnErr result (self.new ≡ self.old) }
+    {
+        let kept = recording.copy(alloc)?;
+        let key = Key { name: *name };
+        self.recordings.insert(key, kept)?;
+        Ok(())
+    }
+
+    /// How many names are kept, at most 4,096.
+    pub fn len(&self) -> u64
+        ensures len { result ≡ length self.now.entries }
+        ensures most { result ≤ 4096 }
+    {
+        self.recordings.len() as u64
+    }
+
+    /// The name at a position, from 0, in the order in which they are kept: first those that were handed in, then the
+    /// others in the order of first saving. None where there are not so many names.
+    pub fn name_at(&self, position: u64) -> Option<&Name>
+        ensures { option_copied result ≡ name_at self.now position }
+    {
+        let (key, _) = self.recordings.get_index(position as usize)?;
+        Some(&key.name)
     }
 
     // Whether there is no place for the name.
     fn is_full_for(&self, name: &Name) -> bool
         ensures { result ≡ is_full_for self.now name.now }
     {
-        PLACES <= self.recordings.len() && !self.recordings.contains_key(name.bytes())
+        PLACES <= self.recordings.len() && !self.recordings.contains_key(&Key { name: *name })
     }
 
     /// The handle of a name: 4,096 times the epoch, and the name's position from 0. It is old after the next save or
@@ -157,7 +196,7 @@ impl Store {
         ensures places { length self.now.entries ≤ 4096 }
         ensures epoch { self.now.epoch < 2 ^ 50 }
     {
-        match self.recordings.get_index_of(name.bytes()) {
+        match self.recordings.get_index_of(&Key { name: *name }) {
             Some(position) => Ok((self.epoch * PLACES as u64 + position as u64) as i64),
             None => Err(NoTrace),
         }
@@ -180,7 +219,7 @@ impl Store {
         ensures value { option_copied result ≡ recording_named self.now name.now }
         ensures playable { IfSome result (λ recording. IsTrue (is_playable recording.now)) }
     {
-        self.recordings.get(name.bytes())
+        self.recordings.get(&Key { name: *name })
     }
 
     /// A copy of the recording of a handle. A handle is old where its quotient by 4,096, rounded down, isn't the epoch, or
@@ -217,7 +256,7 @@ impl Store {
         ensures kept { IsOk result ↔ IsTrue (is_kept self.old name.now) }
         ensures err { OnErr result (self.new ≡ self.old) }
     {
-        if self.recordings.shift_remove(name.bytes()).is_none() {
+        if self.recordings.shift_remove(&Key { name: *name }).is_none() {
             return Err(NoTrace);
         }
         self.epoch = next_epoch(self.epoch);

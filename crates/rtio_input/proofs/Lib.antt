@@ -4,6 +4,7 @@ mod Growing
 mod Resets
 pub mod Each
 pub mod Seen
+mod Rings
 mod Steps
 pub mod Standing
 mod Made
@@ -11,3 +12,4 @@ mod Examples
 pub mod Undecided
 pub mod Fitting
 pub mod Waiting
+pub mod Others

@@ -1,9 +1,11 @@
 -- One input, and the reply to a request for its next edge.
-use Rattle.std.specs.Prelude.{ℕ, ◌-◌, Bool, true, false, List, [], ◌∷◌, ◌++◌, length, get_or, nat_lt, ℤ, pos, int_le, int_lt, if◌then◌else◌, Option, Some, None}
+use Rattle.std.specs.Prelude.{ℕ, ◌-◌, Bool, true, false, List, [], ◌∷◌, ◌++◌, length, get_or, nat_lt, ℤ, pos, int_le, int_lt, if◌then◌else◌, Option, Some, None, option_map, slice_get}
 use Rattle.rtio_types.specs.declared.event.Edge.{Edge}
 use Rattle.rtio_types.specs.declared.request.Reply.{Reply}
 use Rattle.rtio_types.specs.declared.request.Reply.TheVariants as answer
+use Rattle.rtio_types.specs.Board.{is_input}
 use Rattle.rtio_types.specs.Time.{reading}
+use Rattle.rtio_input.specs.Script.{edge_cycle}
 
 -- the stamps of the unread edges, the least first, and the mark: whether an edge was dropped for want of room
 pub record Unread : Type 0 where
@@ -30,6 +32,14 @@ closed_channel = record { unread = nothing_unread; sensitivity = 0 }
 -- the inputs are the channels 24 to 31
 abbrev pub channel_at : List ChannelState → ℕ → ChannelState
 channel_at channels channel = get_or channels (channel - 24) closed_channel
+
+-- what a channel has unread; one that is no input has nothing
+abbrev pub unread_of : InputsState → ℕ → Unread
+unread_of s channel = if is_input channel then (channel_at s.channels channel).unread else nothing_unread
+
+-- the cycle of the first edge that is still to come, if there is one
+abbrev pub next_cycle : InputsState → Option ℕ
+next_cycle s = option_map edge_cycle (slice_get s.left 0)
 
 -- a seen edge is kept while fewer than 64 are unread, and else it sets the mark
 abbrev pub after_edge : Unread → ℤ → Unread

@@ -2,13 +2,13 @@
 
 ghost use Rattle.std.specs.Prelude.{◌≡◌, IfOk, int_le, is_some, pos};
 ghost use Rattle.rtio_types.specs.Time.{reading};
-ghost use Rattle.rtio_input.specs.Channel.{after_edge, closed_channel, edge_reply};
+ghost use Rattle.rtio_input.specs.Channel.{after_edge, closed_channel, edge_reply, nothing_unread};
 ghost use Rattle.rtio_input.specs.Calls.{after_own_edge, after_reply, sensitivity_among};
 ghost use Rattle.rtio_input.specs.Past.{sees};
 
+use circular_buffer::HeapCircularBuffer;
 use rtio_types::{Edge, Event, MU_PER_CYCLE, Reply};
 use std::alloc::{AllocError, Global};
-use std::collections::VecDeque;
 use std::marker::Model;
 
 const UNREAD_MOST: usize = 64;
@@ -17,21 +17,20 @@ const UNREAD_MOST: usize = 64;
 /// data of the last sensitivity event since the last reset.
 #[derive(Debug, Drop)]
 pub struct Channel {
-    unread: VecDeque<i64>,
+    unread: HeapCircularBuffer<i64>,
     overflow: bool,
     sensitivity: u32,
 }
 
 impl Model for Channel {
-    ghost use Rattle.std.specs.Prelude.{◌≤◌, length};
-    ghost use Rattle.std.specs.VecDeque.{deque_capacity};
+    ghost use Rattle.std.specs.Prelude.{◌≡◌, ◌≤◌, length};
     ghost use Rattle.rtio_input.specs.Channel.{ChannelState};
 
     ghost Value = { ChannelState };
 
     ghost view = { λ c. record { unread = record { stamps = c.unread.items; overflow = c.overflow }; sensitivity = c.sensitivity } };
 
-    ghost invariant = { λ c. (64 ≤ deque_capacity c.unread) × (length c.unread.items ≤ 64) };
+    ghost invariant = { λ c. (c.unread.capacity ≡ 64) × (length c.unread.items ≤ 64) };
 }
 
 // Whether a sensitivity lets an edge through: bit 0 rising ones, bit 1 falling ones.
@@ -52,13 +51,24 @@ fn has_reached(counter: u64, moment: i64) -> bool
     i128::from(moment) <= i128::from(MU_PER_CYCLE) * i128::from(counter)
 }
 
+/// The reply to a request for an edge below `up_to` where nothing is unread.
+pub fn reply_to_none(counter: u64, up_to: i64) -> Option<Reply>
+    ensures { result ≡ edge_reply nothing_unread counter up_to }
+{
+    if has_reached(counter, up_to) {
+        Some(Reply::NoEdge)
+    } else {
+        None
+    }
+}
+
 impl Channel {
     /// An input that sees nothing, with room for its unread edges.
     pub fn closed(alloc: Global) -> Result<Channel, AllocError>
         ensures { IfOk result (λ channel. channel ≡ closed_channel) }
     {
         Ok(Channel {
-            unread: VecDeque::with_capacity(alloc, UNREAD_MOST)?,
+            unread: HeapCircularBuffer::with_capacity(alloc, UNREAD_MOST)?,
             overflow: false,
             sensitivity: 0,
         })
@@ -78,11 +88,12 @@ impl Channel {
     }
 
     // Keeps the stamp of a seen edge while there is room, and else sets the mark.
+    #[tactic(auto, using(crate::proofs::Rings::pushed))]
     fn keep(&mut self, stamp: i64)
         ensures { self.new ≡ record self.old { unread = after_edge self.old.unread stamp } }
     {
         if self.unread.len() < UNREAD_MOST {
-            self.unread.push_back_reserved(stamp);
+            self.unread.push_back(stamp);
         } else {
             self.overflow = true;
         }

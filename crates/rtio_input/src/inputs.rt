@@ -1,18 +1,17 @@
 // The inputs of a core.
 
-ghost use Rattle.std.specs.Prelude.{◌≡◌, ◌<◌, ◌++◌, [], ◌∷◌, List, ℕ, IfOk, IsTrue, is_some};
-ghost use Rattle.rtio_types.specs.Board.{is_input};
+ghost use Rattle.std.specs.Prelude.{◌≡◌, ◌<◌, ◌++◌, [], ◌∷◌, List, ℕ, IfOk, IsTrue, is_some, option_map, slice_get};
 ghost use Rattle.rtio_types.specs.declared.event.Edge.{Edge};
 ghost use Rattle.rtio_types.specs.declared.event.Event.{Event};
-ghost use Rattle.rtio_input.specs.Script.{are_edges_ok, later_edges};
-ghost use Rattle.rtio_input.specs.Channel.{channel_at, edge_reply};
+ghost use Rattle.rtio_input.specs.Script.{are_edges_ok, edge_cycle, later_edges};
+ghost use Rattle.rtio_input.specs.Channel.{edge_reply, next_cycle, unread_of};
 ghost use Rattle.rtio_input.specs.Past.{InputStep, Reset, InputsStandFor, unread_at};
 ghost use Rattle.rtio_input.specs.Calls.{after_ask, after_cycle, after_reset, answered_steps, are_of_cycle, closed_channels, passed_before};
 
-use crate::channel::Channel;
+use crate::channel::{Channel, reply_to_none};
 use crate::channels::{FIRST, close_all, closed_channels, pass_cycle};
 use crate::script::{Script, count_at, edges_to_come};
-use rtio_types::{Edge, Event, Reply};
+use rtio_types::{Edge, Event, Reply, is_input};
 use std::alloc::{AllocError, Global};
 use std::marker::Model;
 
@@ -64,12 +63,23 @@ impl Inputs {
         self.script.skip(count);
     }
 
-    /// The reply to a request for an edge of an input with a stamp below `up_to` mu, at this counter of cycles: an
+    /// The cycle of the next edge of the script that is still to come; each lies in a cycle of at least 1. None where no
+    /// such edge is left.
+    pub fn next_cycle(&self) -> Option<u64>
+        ensures value { result ≡ next_cycle self.now }
+        // It is the first edge behind the counter, where the inputs stand for a script.
+        ensures right { (script : List Edge) (outputs : List Event) (steps : List InputStep) (counter : ℕ)
+            → InputsStandFor self.now script outputs steps counter
+            → result ≡ option_map edge_cycle (slice_get (later_edges counter script) 0) }
+    {
+        self.script.next_cycle()
+    }
+
+    /// The reply to a request for an edge of a channel with a stamp below `up_to` mu, at this counter of cycles: an
     /// overflow, which it clears; the stamp of the first unread edge, which it reads; no edge; or None where that isn't
-    /// decided yet.
+    /// decided yet. A channel that is no input has nothing unread.
     pub fn ask_edge(&mut self, counter: u64, channel: u8, up_to: i64) -> Option<Reply>
-        requires { IsTrue (is_input channel) }
-        ensures reply { result ≡ edge_reply (channel_at self.old.channels channel).unread counter up_to }
+        ensures reply { result ≡ edge_reply (unread_of self.old channel) counter up_to }
         ensures after { self.new ≡ after_ask self.old channel result }
         // It is the reply by all that happened, where the inputs stand for that, and it is a step more of it.
         ensures right { (script : List Edge) (outputs : List Event) (steps : List InputStep)
@@ -79,19 +89,26 @@ impl Inputs {
             → InputsStandFor self.old script outputs steps counter
             → InputsStandFor self.new script outputs (steps ++ answered_steps counter channel result) counter }
     {
-        self.channels[(channel - FIRST) as usize].answer(counter, up_to)
+        if is_input(channel) {
+            self.channels[(channel - FIRST) as usize].answer(counter, up_to)
+        } else {
+            reply_to_none(counter, up_to)
+        }
     }
 
     /// Whether a request for an edge is decided at this counter: whether `ask_edge` would answer it.
     pub fn is_decided(&self, counter: u64, channel: u8, up_to: i64) -> bool
-        requires { IsTrue (is_input channel) }
-        ensures value { result ≡ is_some (edge_reply (channel_at self.now.channels channel).unread counter up_to) }
+        ensures value { result ≡ is_some (edge_reply (unread_of self.now channel) counter up_to) }
         // It is so by all that happened, where the inputs stand for that.
         ensures right { (script : List Edge) (outputs : List Event) (steps : List InputStep)
             → InputsStandFor self.now script outputs steps counter
             → result ≡ is_some (edge_reply (unread_at script outputs steps counter channel) counter up_to) }
     {
-        self.channels[(channel - FIRST) as usize].is_decided(counter, up_to)
+        if is_input(channel) {
+            self.channels[(channel - FIRST) as usize].is_decided(counter, up_to)
+        } else {
+            reply_to_none(counter, up_to).is_some()
+        }
     }
 
     /// Drops the unread edges and clears the overflows. Sensitivities of before count no more.

@@ -88,7 +88,7 @@ pub fn count_at(edges: &[Edge], cycle: u64) -> usize
     count_first(edges, cycle)
 }
 
-ghost use Rattle.std.specs.Prelude.{take_while};
+ghost use Rattle.std.specs.Prelude.{option_map, slice_get, take_while};
 
 // How many edges are of a cycle before the first that isn't.
 fn count_first(edges: &[Edge], cycle: u64) -> usize
@@ -132,6 +132,16 @@ impl Script {
         ensures { result.now ≡ self.now }
     {
         &self.edges[self.next..]
+    }
+
+    /// The cycle of the first edge to come, if there is one.
+    pub fn next_cycle(&self) -> Option<u64>
+        ensures { result ≡ option_map edge_cycle (slice_get self.now 0) }
+    {
+        match self.left().first() {
+            None => None,
+            Some(edge) => Some(edge_cycle(edge)),
+        }
     }
 
     /// Goes past so many of them.

@@ -1,15 +1,28 @@
-use Rattle.std.proofs.Common.{rules, ◌∙◌, ap, arith}
+use Rattle.std.proofs.Common.{◌≡◌, true, false, rules, w64, ◌∙◌, ap, sym, arith}
 use Rattle.std.specs.Prelude.{is_some}
 use Rattle.std.proofs.lemmas.Grind.{common_steps}
-use Rattle.rtio_input.specs.Channel.{ChannelState, edge_reply}
-use Rattle.rtio_input.proofs.Standing.{channel-stands}
+use Rattle.std.proofs.lemmas.Int.{to_z-of_z}
+use Rattle.rtio_types.specs.Board.{is_input}
+use Rattle.rtio_input.specs.Channel.{channel_at, edge_reply, nothing_unread}
+use Rattle.rtio_input.proofs.Others.{other-unread, own-unread, unread-stands}
 use Rattle.rtio_input.proofs.inputs.Inputs.is_decided.Goals as goal
 
-pub returns-clause-value : goal.returns-clause-value
-returns-clause-value c = first_of (search rules, grind (arith, common_steps))
+pub returns-then-is_input-clause-value : goal.returns-then-is_input-clause-value
+returns-then-is_input-clause-value c =
+    let own : is_input c.args.channel ≡ true = sym c.is_input.ensures ∙ c.if-is_input.true in
+    let reply : c.is_decided.result ≡ is_some (edge_reply (channel_at c.args.self.now.channels c.args.channel).unread c.args.counter c.args.up_to) = first_of (search rules, grind (arith, common_steps)) in
+    reply ∙ ap (λ u. is_some (edge_reply u c.args.counter c.args.up_to)) (sym (own-unread c.args.self.now c.args.channel own))
 
-pub returns-clause-right : goal.returns-clause-right
-returns-clause-right c = λ script outputs steps stands.
-    returns-clause-value c
-    ∙ ap (λ (input : ChannelState). is_some (edge_reply input.unread c.args.counter c.args.up_to))
-    (channel-stands c.args.self.now script outputs steps c.args.counter c.args.channel c.requires stands)
+pub returns-then-is_input-clause-right : goal.returns-then-is_input-clause-right
+returns-then-is_input-clause-right c = λ script outputs steps stands.
+    returns-then-is_input-clause-value c ∙ ap (λ u. is_some (edge_reply u c.args.counter c.args.up_to)) (unread-stands c.args.self.now script outputs steps c.args.counter c.args.channel stands)
+
+pub returns-else-is_input-clause-value : goal.returns-else-is_input-clause-value
+returns-else-is_input-clause-value c =
+    let other : is_input c.args.channel ≡ false = sym c.is_input.ensures ∙ c.if-is_input.false in
+    let bits = to_z-of_z w64 c.args.up_to c.ranges.up_to in
+    c.is_some.ensures ∙ ap is_some (c.reply_to_none.ensures ∙ ap (λ up_to. edge_reply nothing_unread c.args.counter up_to) bits ∙ ap (λ u. edge_reply u c.args.counter c.args.up_to) (sym (other-unread c.args.self.now c.args.channel other)))
+
+pub returns-else-is_input-clause-right : goal.returns-else-is_input-clause-right
+returns-else-is_input-clause-right c = λ script outputs steps stands.
+    returns-else-is_input-clause-value c ∙ ap (λ u. is_some (edge_reply u c.args.counter c.args.up_to)) (unread-stands c.args.self.now script outputs steps c.args.counter c.args.channel stands)

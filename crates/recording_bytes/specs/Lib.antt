@@ -1,0 +1,5 @@
+pub mod Playable
+pub mod Numbers
+pub mod Spelling
+pub mod Reading
+pub mod Fields
