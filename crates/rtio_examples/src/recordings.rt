@@ -37,8 +37,14 @@ fn is_pulse(recording: &Recording) -> bool {
     recording.events.as_slice() == [ON, OFF].as_slice() && recording.length == 80
 }
 
-// Its bytes: format, number of events and length, then channel, address, data and stamp of each event.
-const PULSE: [u8; 41] = [
+// Its bytes in format 2: format, number of events and length, then channel, address, widths, data and step of each
+// event. The first has one byte of data, and no step; the second a step of 50, as 100.
+const PULSE: [u8; 21] = [
+    2, 2, 0, 0, 0, 80, 0, 0, 0, 0, 0, 0, 0, 0, 0, 1, 1, 0, 0, 16, 100,
+];
+
+// And in format 1: channel, address, data and stamp of each event.
+const OLD_PULSE: [u8; 41] = [
     1, 2, 0, 0, 0, 80, 0, 0, 0, 0, 0, 0, 0, 0, 0, 1, 0, 0, 0, 0, 0, 0, 0, 0, 0, 0, 0, 0, 0, 0, 0,
     0, 0, 50, 0, 0, 0, 0, 0, 0, 0,
 ];
@@ -162,14 +168,15 @@ fn a_recording_has_its_bytes(rt: HostRuntime) -> Result<(), Fail> {
     let recording = pulse(alloc)?;
     assert_eq!(rt; encode(alloc, &recording)?.as_slice(), PULSE.as_slice());
     assert!(rt; decode(alloc, &PULSE).is_ok_and(|read| is_pulse(&read)));
+    assert!(rt; decode(alloc, &OLD_PULSE).is_ok_and(|read| is_pulse(&read)));
     Ok(())
 }
 
-// The pulse's bytes with one of them changed.
+// The pulse's bytes in format 1 with one of them changed.
 fn changed(at: usize, to: u8) -> [u8; 41]
     requires { at < 41 }
 {
-    let mut bytes = PULSE;
+    let mut bytes = OLD_PULSE;
     bytes[at] = to;
     bytes
 }
@@ -177,17 +184,17 @@ fn changed(at: usize, to: u8) -> [u8; 41]
 #[test]
 fn damaged_bytes_are_refused_at_the_first_wrong_field(rt: HostRuntime) -> Result<(), Fail> {
     let alloc = rt.alloc();
-    let mut longer = Vec::from_slice(alloc, &PULSE)?;
+    let mut longer = Vec::from_slice(alloc, &OLD_PULSE)?;
     longer.push(0)?;
-    // no byte; another format; a channel and an address that the board lacks; a last field and a header that are cut
-    // off; a byte behind the last field; more events than there are
+    // in format 1: no byte; another format; a channel and an address that the board lacks; a last field and a header that
+    // are cut off; a byte behind the last field; more events than there are
     let damaged: [(&[u8], u64); 9] = [
         (&[], 0),
         (&changed(0, 0), 0),
         (&changed(13, 32), 13),
         (&changed(14, 1), 14),
-        (&PULSE[..40], 33),
-        (&PULSE[..12], 5),
+        (&OLD_PULSE[..40], 33),
+        (&OLD_PULSE[..12], 5),
         (&longer, 41),
         (&changed(1, 1), 27),
         (&changed(4, 255), 41),
