@@ -53,3 +53,27 @@ fn new_inputs_have_nothing_unread(rt: HostRuntime) -> Result<(), Fail> {
     assert!(rt; inputs.ask_edge(1, 24, 9).is_none());
     Ok(())
 }
+
+#[test]
+fn the_next_edge_is_the_first_that_is_left(rt: HostRuntime) -> Result<(), Fail> {
+    let inputs = Inputs::new(rt.alloc(), &[])?;
+    assert_eq!(rt; inputs.next_cycle(), None);
+    // An edge of cycle 0 never comes.
+    let edges = [rising(24, 7), rising(25, 1040), rising(24, 1048)];
+    assert!(rt; edges_ok(&edges));
+    let inputs = Inputs::new(rt.alloc(), &edges)?;
+    assert_eq!(rt; inputs.next_cycle(), Some(130));
+    Ok(())
+}
+
+#[test]
+fn a_channel_that_is_no_input_has_nothing_unread(rt: HostRuntime) -> Result<(), Fail> {
+    let mut inputs = Inputs::new(rt.alloc(), &[])?;
+    for channel in [0, 23, 32, 255] {
+        assert_eq!(rt; inputs.is_decided(4, channel, 33), false);
+        assert!(rt; inputs.ask_edge(4, channel, 33).is_none());
+        assert_eq!(rt; inputs.is_decided(4, channel, 32), true);
+        assert!(rt; matches!(inputs.ask_edge(4, channel, 32), Some(Reply::NoEdge)));
+    }
+    Ok(())
+}

@@ -33,3 +33,18 @@ fn pairs_stand_in_their_room(rt: HostRuntime) -> Result<(), Fail> {
     assert_eq!(rt; heads.len(), 0);
     Ok(())
 }
+
+#[test]
+fn the_next_cycle_is_that_of_the_first_event(rt: HostRuntime) -> Result<(), Fail> {
+    let event = Event {
+        channel: 3,
+        address: 0,
+        value: 1,
+        stamp: 1000,
+    };
+    let mut lanes = Lanes::new(rt.alloc(), 2, 2)?;
+    assert_eq!(rt; lanes.next_cycle(), None);
+    assert_eq!(rt; lanes.place(0, 0, &event), Place::Lane(0));
+    assert_eq!(rt; lanes.next_cycle(), Some(125));
+    Ok(())
+}

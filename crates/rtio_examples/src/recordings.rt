@@ -162,45 +162,150 @@ fn a_kept_name_is_saved_when_4096_are_kept(rt: HostRuntime) -> Result<(), Fail> 
     Ok(())
 }
 
+// Whether the bytes are those of the pulse.
+fn are_of_pulse(alloc: Global, bytes: &[u8]) -> bool {
+    decode(alloc, bytes).is_ok_and(|read| is_pulse(&read))
+}
+
 #[test]
 fn a_recording_has_its_bytes(rt: HostRuntime) -> Result<(), Fail> {
     let alloc = rt.alloc();
     let recording = pulse(alloc)?;
     assert_eq!(rt; encode(alloc, &recording)?.as_slice(), PULSE.as_slice());
-    assert!(rt; decode(alloc, &PULSE).is_ok_and(|read| is_pulse(&read)));
-    assert!(rt; decode(alloc, &OLD_PULSE).is_ok_and(|read| is_pulse(&read)));
+    assert!(rt; are_of_pulse(alloc, &PULSE));
+    assert!(rt; are_of_pulse(alloc, &OLD_PULSE));
     Ok(())
 }
 
-// The pulse's bytes in format 1 with one of them changed.
-fn changed(at: usize, to: u8) -> [u8; 41]
-    requires { at < 41 }
-{
-    let mut bytes = OLD_PULSE;
-    bytes[at] = to;
-    bytes
+// The bytes of a recording that says the greatest and the least of its numbers: 2^32 - 1 in 4 bytes, the least stamp as
+// a step of 2^64 - 1 in 8, and then a step of -1, by which the stamp wraps to the greatest one.
+const WIDEST: [u8; 32] = [
+    2, 2, 0, 0, 0, 255, 255, 255, 255, 255, 255, 255, 127, 16, 255, 132, 255, 255, 255, 255, 255,
+    255, 255, 255, 255, 255, 255, 255, 31, 2, 16, 1,
+];
+
+#[test]
+fn the_widest_numbers_come_back(rt: HostRuntime) -> Result<(), Fail> {
+    let alloc = rt.alloc();
+    let first = Event {
+        channel: 16,
+        address: 255,
+        value: 4_294_967_295,
+        stamp: -9_223_372_036_854_775_808,
+    };
+    let second = Event {
+        channel: 31,
+        address: 2,
+        value: 0,
+        stamp: 9_223_372_036_854_775_807,
+    };
+    let read = decode(alloc, &WIDEST).ok().ok_or("no recording")?;
+    assert_eq!(rt; read.events.as_slice(), [first, second].as_slice());
+    assert_eq!(rt; read.length, 9_223_372_036_854_775_807);
+    assert_eq!(rt; encode(alloc, &read)?.as_slice(), WIDEST.as_slice());
+    Ok(())
+}
+
+// The bytes with one of them changed.
+fn changed<'a>(bytes: &'a mut Vec<u8>, at: usize, to: u8) -> &'a [u8] {
+    if at < bytes.len() {
+        bytes[at] = to;
+    }
+    bytes.as_slice()
 }
 
 #[test]
 fn damaged_bytes_are_refused_at_the_first_wrong_field(rt: HostRuntime) -> Result<(), Fail> {
     let alloc = rt.alloc();
-    let mut longer = Vec::from_slice(alloc, &OLD_PULSE)?;
+    // format 1: another format; a channel and an address that the board lacks; more events than there are.
+    // format 2: a channel and an address that the board lacks; 5 bytes of data, and 9 of a step; a last byte of data and
+    // one of a step that are 0; more events than there are
+    let damaged: [(&[u8], usize, u8, u64); 12] = [
+        (&OLD_PULSE, 0, 0, 0),
+        (&OLD_PULSE, 13, 32, 13),
+        (&OLD_PULSE, 14, 1, 14),
+        (&OLD_PULSE, 1, 1, 27),
+        (&OLD_PULSE, 4, 255, 41),
+        (&PULSE, 0, 3, 0),
+        (&PULSE, 17, 32, 17),
+        (&PULSE, 18, 1, 18),
+        (&PULSE, 15, 5, 15),
+        (&PULSE, 19, 144, 19),
+        (&PULSE, 16, 0, 16),
+        (&PULSE, 20, 0, 20),
+    ];
+    for (bytes, at, to, offset) in damaged {
+        let mut copy = Vec::from_slice(alloc, bytes)?;
+        let end = decode(alloc, changed(&mut copy, at, to)).err();
+        assert_eq!(rt; end, Some(DmaEnd::Fault { offset }));
+    }
+    Ok(())
+}
+
+#[test]
+fn bytes_that_are_cut_off_or_too_many_are_refused(rt: HostRuntime) -> Result<(), Fail> {
+    let alloc = rt.alloc();
+    let mut longer = Vec::from_slice(alloc, &PULSE)?;
     longer.push(0)?;
-    // in format 1: no byte; another format; a channel and an address that the board lacks; a last field and a header that
-    // are cut off; a byte behind the last field; more events than there are
-    let damaged: [(&[u8], u64); 9] = [
+    let mut old_longer = Vec::from_slice(alloc, &OLD_PULSE)?;
+    old_longer.push(0)?;
+    // no byte; a last field and a header that are cut off; a byte behind the last field; of format 2 an event without
+    // its step, its widths, its data and anything
+    let refused: [(&[u8], u64); 9] = [
         (&[], 0),
-        (&changed(0, 0), 0),
-        (&changed(13, 32), 13),
-        (&changed(14, 1), 14),
         (&OLD_PULSE[..40], 33),
         (&OLD_PULSE[..12], 5),
-        (&longer, 41),
-        (&changed(1, 1), 27),
-        (&changed(4, 255), 41),
+        (&old_longer, 41),
+        (&longer, 21),
+        (&PULSE[..20], 20),
+        (&PULSE[..19], 19),
+        (&PULSE[..16], 16),
+        (&PULSE[..13], 13),
     ];
-    for (bytes, offset) in damaged {
+    for (bytes, offset) in refused {
         assert_eq!(rt; decode(alloc, bytes).err(), Some(DmaEnd::Fault { offset }));
     }
+    Ok(())
+}
+
+// The names of a store in its order.
+fn names_of(store: &Store, alloc: Global) -> Result<String, Fail> {
+    let mut text = String::new(alloc);
+    for position in 0..=store.len() {
+        match store.name_at(position) {
+            Some(name) => write!(text, "{:?} ", name.bytes())?,
+            None => text.push_str("end")?,
+        }
+    }
+    Ok(text)
+}
+
+#[test]
+fn what_was_handed_in_stands_first(rt: HostRuntime) -> Result<(), Fail> {
+    let alloc = rt.alloc();
+    let b = Name::read(b"b").ok_or("no name")?;
+    let a = Name::read(b"a").ok_or("no name")?;
+    let recording = pulse(alloc)?;
+    let mut store = Store::new(alloc);
+    assert_eq!(rt; names_of(&store, alloc)?.as_str(), "end");
+    store.hand_in(alloc, &b, &recording)?;
+    // In epoch 0 the handle of the first name is 0.
+    let steps = [
+        Handle(b),
+        Read(b),
+        ReadHandle(0),
+        Save(a),
+        Save(b),
+        Handle(a),
+    ];
+    let said = told(&mut store, alloc, &steps)?;
+    assert_eq!(rt;
+        said.as_str(),
+        "Ok(0); Ok(true); Ok(true); Ok(()); Ok(()); Ok(8193); "
+    );
+    assert_eq!(rt; names_of(&store, alloc)?.as_str(), "[98] [97] end");
+    let said = told(&mut store, alloc, &[Erase(b), Save(b), Handle(b)])?;
+    assert_eq!(rt; said.as_str(), "Ok(()); Ok(()); Ok(16385); ");
+    assert_eq!(rt; names_of(&store, alloc)?.as_str(), "[97] [98] end");
     Ok(())
 }
