@@ -95,8 +95,7 @@ impl From<AllocError> for HandleEnd {
 }
 
 /// The recordings of a core by name, first those that were handed in and then the others in the order of first saving,
-/// and the epoch: how many saves and erases succeeded,
-/// modulo 2^50. Contracts see it as that list and that number.
+/// and the epoch: how many saves and erases succeeded, modulo 2^50. Contracts see it as that list and that number.
 #[derive(Debug, Drop)]
 pub struct Store {
     recordings: IndexMap<Key, Recording>,

@@ -12,6 +12,7 @@ pub record Field : Type 0 where
   pub is_whole : Bool
   pub in_range : Bool
 
+-- both hold of the field
 abbrev pub is_right : Field → Bool
 is_right field = field.is_whole && field.in_range
 
@@ -60,9 +61,11 @@ number_fields place bytes =
     ∷ field (3 + data_width bytes) (step_width bytes) (is_short (step_bytes bytes))
     ∷ []
 
+-- all fields of an event in format 2
 abbrev pub short_fields : ℕ → List ℕ → List Field
 short_fields place bytes = front_fields place bytes ++ number_fields place bytes
 
+-- all fields of an event in either format
 abbrev pub event_fields : Format → ℕ → List ℕ → List Field
 event_fields Fixed place bytes = fixed_fields place bytes
 event_fields Short place bytes = short_fields place bytes

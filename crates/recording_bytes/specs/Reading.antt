@@ -24,17 +24,19 @@ length_read bytes =
     w64
     (from_le_bytes w64 (byte 5 ∷ byte 6 ∷ byte 7 ∷ byte 8 ∷ byte 9 ∷ byte 10 ∷ byte 11 ∷ byte 12 ∷ []))
 
--- how many bytes of data there are, in the low half of the widths, and of the step, in the high half
+-- how many bytes of data there are, in the low half of the widths
 abbrev pub data_width : List ℕ → ℕ
 data_width bytes = slice_index bytes 2 % 16
 
+-- how many bytes of the step there are, in the high half
 abbrev pub step_width : List ℕ → ℕ
 step_width bytes = slice_index bytes 2 / 16
 
--- the data and the step
+-- the bytes of the data, behind channel, address and widths
 abbrev pub data_bytes : List ℕ → List ℕ
 data_bytes bytes = take (data_width bytes) (drop 3 bytes)
 
+-- the bytes of the step, behind those of the data
 abbrev pub step_bytes : List ℕ → List ℕ
 step_bytes bytes = take (step_width bytes) (drop (data_width bytes) (drop 3 bytes))
 
@@ -67,6 +69,7 @@ short_read before bytes =
       stamp = int_wrapping_add w64 before (unfolded (number_of (step_bytes bytes)));
     }
 
+-- in either format
 abbrev pub event_read : Format → ℤ → List ℕ → Event
 event_read Fixed before bytes = fixed_read bytes
 event_read Short before bytes = short_read before bytes
