@@ -9,8 +9,10 @@ use Rattle.rtio_types.specs.Time.{cycle_of, coarse_of, at_least_zero}
 use Rattle.sed_lanes.proofs.Orders.{IsChain, IsInOrder, NoneBefore, sorted-in_order}
 use Rattle.sed_lanes.specs.Judged.{Judged}
 use Rattle.output_merge.specs.Live.{live}
+use Rattle.output_merge.specs.Busy.{put_out}
 use Rattle.output_merge.specs.Groups.{is_put_out_before, keepers, part_of, is_keeper}
-use Rattle.output_merge.specs.Outputs.{outputs, up_to}
+use Rattle.output_merge.specs.Outputs.{outputs, put_out_by, up_to}
+use Rattle.output_merge.proofs.Busies.{by-cycle-put_out}
 use Rattle.output_merge.proofs.Histories.{AreFrom, AreByCycle, of_cycle, up_to-next}
 
 -- a stamp that isn't less has no lesser cycle
@@ -57,9 +59,18 @@ in-order-by-cycle : (events : List (ℕ × Event)) → IsInOrder is_put_out_befo
 in-order-by-cycle [] order = tt
 in-order-by-cycle (p ∷ events) order = (none-from p events order.0, in-order-by-cycle events order.1)
 
--- one cycle more puts out the keepers of that cycle, behind all others
-pub outputs-next : (judged : List Judged) (cycle : ℕ) → outputs judged (cycle + 1) ≡ outputs judged cycle ++ map (λ p. p.1) (of_cycle (cycle + 1) (keepers (live judged)))
-outputs-next judged cycle =
+-- the keepers come by cycle
+pub keepers-by-cycle : (events : List (ℕ × Event)) → AreByCycle (keepers events)
+keepers-by-cycle events =
+    in-order-by-cycle (keepers events) (sorted-in_order is_put_out_before put_out_order (filter (λ p. is_keeper (part_of events p)) events))
+
+-- one cycle more puts out those of that cycle, behind all others
+pub put_out-next : (holds : List ℕ) (judged : List Judged) (cycle : ℕ) → put_out_by holds judged (cycle + 1) ≡ put_out_by holds judged cycle ++ of_cycle (cycle + 1) (put_out holds (keepers (live judged)))
+put_out-next holds judged cycle =
     let kept : List (ℕ × Event) = keepers (live judged) in
-    let order : AreByCycle kept = in-order-by-cycle kept (sorted-in_order is_put_out_before put_out_order (filter (λ p. is_keeper (part_of (live judged) p)) (live judged))) in
-    ap (map (λ p. p.1)) (up_to-next cycle kept order) ∙ map-append (λ p. p.1) (up_to cycle kept) (of_cycle (cycle + 1) kept)
+    up_to-next cycle (put_out holds kept) (by-cycle-put_out holds [] kept (keepers-by-cycle (live judged)))
+
+pub outputs-next : (holds : List ℕ) (judged : List Judged) (cycle : ℕ) → outputs holds judged (cycle + 1) ≡ outputs holds judged cycle ++ map (λ p. p.1) (of_cycle (cycle + 1) (put_out holds (keepers (live judged))))
+outputs-next holds judged cycle =
+    ap (map (λ p. p.1)) (put_out-next holds judged cycle)
+    ∙ map-append (λ p. p.1) (put_out_by holds judged cycle) (of_cycle (cycle + 1) (put_out holds (keepers (live judged))))

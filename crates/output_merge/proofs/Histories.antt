@@ -1,5 +1,5 @@
 -- What one step more does to the live events, and one cycle more to the outputs.
-use Rattle.std.proofs.Common.{◌≡◌, ℕ, ◌+◌, ◌<◌, ◌≤◌, true, false, List, [], ◌∷◌, ◌++◌, refl, ap, ◌∙◌, arith, cond}
+use Rattle.std.proofs.Common.{◌≡◌, ℕ, ◌+◌, ◌<◌, ◌≤◌, Bool, true, false, List, [], ◌∷◌, ◌++◌, refl, ap, ◌∙◌, arith, cond}
 use Rattle.std.specs.Prelude.{filter, nat_le, nat_lt, ◌==◌, ◌||◌}
 use Rattle.std.specs.List.{list_any}
 use Rattle.std.proofs.lemmas.Bool.Decides.{nat_tests}
@@ -51,7 +51,18 @@ abbrev pub AreByCycle : List (ℕ × Event) → Type 0
 AreByCycle [] = Unit {0}
 AreByCycle (p ∷ rest) = AreFrom (cycle_of p.1) rest × AreByCycle rest
 
-none-up_to : (cycle from : ℕ) (events : List (ℕ × Event)) → cycle < from → AreFrom from events → up_to cycle events ≡ []
+within-at : {X : Type 0} (inner outer : X → Bool) (x : X) (xs : List X) (i o : Bool) → inner x ≡ i → outer x ≡ o → (i ≡ true → o ≡ true) → filter inner (filter outer xs) ≡ filter inner xs → filter inner (cond o (x ∷ filter outer xs) (filter outer xs)) ≡ cond i (x ∷ filter inner xs) (filter inner xs)
+within-at inner outer x xs true true is_inner is_outer implies ih = rw is_inner (ap (λ ys. x ∷ ys) ih)
+within-at inner outer x xs true false is_inner is_outer implies ih = let both : false ≡ true = implies refl in absurd (cc)
+within-at inner outer x xs false true is_inner is_outer implies ih = rw is_inner ih
+within-at inner outer x xs false false is_inner is_outer implies ih = ih
+
+-- a wider filter before a narrower one changes nothing
+pub filter-within : {X : Type 0} (inner outer : X → Bool) (xs : List X) → ((x : X) → inner x ≡ true → outer x ≡ true) → filter inner (filter outer xs) ≡ filter inner xs
+filter-within inner outer [] implies = refl
+filter-within inner outer (x ∷ xs) implies = within-at inner outer x xs (inner x) (outer x) refl refl (implies x) (filter-within inner outer xs implies)
+
+pub none-up_to : (cycle from : ℕ) (events : List (ℕ × Event)) → cycle < from → AreFrom from events → up_to cycle events ≡ []
 none-up_to cycle from [] lt h = refl
 none-up_to cycle from (p ∷ rest) lt h =
     let no : nat_le (cycle_of p.1) cycle ≡ false = grind (arith, nat_tests, lt, h.0) in

@@ -1,5 +1,6 @@
 mod Examples
 pub mod Histories
+pub mod Busies
 pub mod Cycles
 pub mod OneCycle
 mod Summing
@@ -12,3 +13,4 @@ pub mod Ticks
 pub mod Greatest
 pub mod Alone
 pub mod Staying
+mod Sieves

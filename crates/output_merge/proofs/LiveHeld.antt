@@ -24,8 +24,7 @@ use Rattle.sed_lanes.proofs.Since.{accepted-since-cleared, accepted-since-taken,
 use Rattle.sed_lanes.proofs.Unplaced.{IsUnplaced}
 use Rattle.output_merge.specs.Live.{cleared, clears, live}
 use Rattle.output_merge.specs.Outputs.{up_to}
-use Rattle.output_merge.proofs.Histories.{any-clears-cleared, live-accepted, live-cleared, of_cycle}
-use Rattle.output_merge.proofs.OneCycle.{filter-within}
+use Rattle.output_merge.proofs.Histories.{any-clears-cleared, filter-within, live-accepted, live-cleared, of_cycle}
 use Rattle.output_merge.proofs.Steps.{live-unplaced}
 
 numbers-part : (number : ℕ) (test : ℕ × Event → Bool) (events : List (ℕ × Event)) → AreNumbersBelow number events → AreNumbersBelow number (filter test events)

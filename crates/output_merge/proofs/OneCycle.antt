@@ -7,19 +7,8 @@ use Rattle.rtio_types.specs.Time.{cycle_of}
 use Rattle.sed_lanes.specs.Sorting.{sorted}
 use Rattle.sed_lanes.proofs.Orders.{filter-sorted}
 use Rattle.output_merge.specs.Groups.{is_put_out_before, group_of, part_in, part_of, is_keeper, keepers}
-use Rattle.output_merge.proofs.Histories.{of_cycle}
+use Rattle.output_merge.proofs.Histories.{filter-within, of_cycle}
 use Rattle.output_merge.proofs.Cycles.{put_out_order}
-
-within-at : {X : Type 0} (inner outer : X → Bool) (x : X) (xs : List X) (i o : Bool) → inner x ≡ i → outer x ≡ o → (i ≡ true → o ≡ true) → filter inner (filter outer xs) ≡ filter inner xs → filter inner (cond o (x ∷ filter outer xs) (filter outer xs)) ≡ cond i (x ∷ filter inner xs) (filter inner xs)
-within-at inner outer x xs true true is_inner is_outer implies ih = rw is_inner (ap (λ ys. x ∷ ys) ih)
-within-at inner outer x xs true false is_inner is_outer implies ih = let both : false ≡ true = implies refl in absurd (cc)
-within-at inner outer x xs false true is_inner is_outer implies ih = rw is_inner ih
-within-at inner outer x xs false false is_inner is_outer implies ih = ih
-
--- a wider filter before a narrower one changes nothing
-pub filter-within : {X : Type 0} (inner outer : X → Bool) (xs : List X) → ((x : X) → inner x ≡ true → outer x ≡ true) → filter inner (filter outer xs) ≡ filter inner xs
-filter-within inner outer [] implies = refl
-filter-within inner outer (x ∷ xs) implies = within-at inner outer x xs (inner x) (outer x) refl refl (implies x) (filter-within inner outer xs implies)
 
 swap-at : {X : Type 0} (test one other : X → Bool) (x : X) (xs : List X) (t k : Bool) → test x ≡ t → one x ≡ k → (t ≡ true → other x ≡ k) → filter test (filter one xs) ≡ filter other (filter test xs) → filter test (cond k (x ∷ filter one xs) (filter one xs)) ≡ filter other (cond t (x ∷ filter test xs) (filter test xs))
 swap-at test one other x xs true true is_test is_one same ih = rw (is_test, same refl) (ap (λ ys. x ∷ ys) ih)

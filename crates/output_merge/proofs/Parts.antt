@@ -12,11 +12,13 @@ use Rattle.sed_lanes.specs.Verdict.{Verdict, Lane}
 use Rattle.sed_lanes.proofs.Orders.{IsChain, filter-sorted}
 use Rattle.sed_lanes.proofs.Unplaced.{IsUnplaced}
 use Rattle.output_merge.specs.Groups.{collisions, group_of, is_collision, is_keeper, is_logged_before, is_put_out_before, keepers, part_in, part_of}
+use Rattle.output_merge.specs.Busy.{busy, busy_behind, put_out}
 use Rattle.output_merge.specs.Live.{live}
-use Rattle.output_merge.specs.Outputs.{outputs, up_to}
-use Rattle.output_merge.proofs.Cycles.{put_out_order}
-use Rattle.output_merge.proofs.Histories.{live-accepted, live-cleared, of_cycle}
-use Rattle.output_merge.proofs.OneCycle.{filter-swap, filter-within}
+use Rattle.output_merge.specs.Outputs.{outputs, put_out_by, up_to}
+use Rattle.output_merge.proofs.Cycles.{keepers-by-cycle, put_out_order}
+use Rattle.output_merge.proofs.Busies.{up_to-busy, up_to-put_out}
+use Rattle.output_merge.proofs.Histories.{filter-within, live-accepted, live-cleared, of_cycle}
+use Rattle.output_merge.proofs.OneCycle.{filter-swap}
 use Rattle.output_merge.proofs.Steps.{live-unplaced}
 
 -- by three numbers, the first of them that differ
@@ -75,10 +77,29 @@ up_to-keepers cycle events = keepers-part (λ n. nat_le n cycle) events
 pub up_to-collisions : (cycle : ℕ) (events : List (ℕ × Event)) → up_to cycle (collisions events) ≡ collisions (up_to cycle events)
 up_to-collisions cycle events = collisions-part (λ n. nat_le n cycle) events
 
+-- what is put out up to a cycle is put out of the keepers up to it
+put_out-settled : (holds : List ℕ) (judged : List Judged) (cycle : ℕ) → put_out_by holds judged cycle ≡ put_out holds (keepers (up_to cycle (live judged)))
+put_out-settled holds judged cycle =
+    up_to-put_out holds cycle [] (keepers (live judged)) (keepers-by-cycle (live judged)) ∙ ap (put_out holds) (up_to-keepers cycle (live judged))
+
+busy-settled : (holds : List ℕ) (judged : List Judged) (cycle : ℕ) → up_to cycle (busy holds (keepers (live judged))) ≡ busy holds (keepers (up_to cycle (live judged)))
+busy-settled holds judged cycle =
+    filter-sorted is_logged_before logged_order (λ p. nat_le (cycle_of p.1) cycle) (busy_behind holds [] (keepers (live judged)))
+    ∙ ap (sorted is_logged_before)
+    (up_to-busy holds cycle [] (keepers (live judged)) (keepers-by-cycle (live judged)) ∙ ap (busy_behind holds []) (up_to-keepers cycle (live judged)))
+
 -- histories with the same live events up to a cycle put out the same up to it
-pub outputs-same : (judged other : List Judged) (cycle : ℕ) → up_to cycle (live judged) ≡ up_to cycle (live other) → outputs judged cycle ≡ outputs other cycle
-outputs-same judged other cycle same =
-    ap (map (λ (p : ℕ × Event). p.1)) (up_to-keepers cycle (live judged) ∙ ap keepers same ∙ sym (up_to-keepers cycle (live other)))
+pub put_out-same : (holds : List ℕ) (judged other : List Judged) (cycle : ℕ) → up_to cycle (live judged) ≡ up_to cycle (live other) → put_out_by holds judged cycle ≡ put_out_by holds other cycle
+put_out-same holds judged other cycle same =
+    put_out-settled holds judged cycle ∙ ap (λ (events : List (ℕ × Event)). put_out holds (keepers events)) same ∙ sym (put_out-settled holds other cycle)
+
+pub outputs-same : (holds : List ℕ) (judged other : List Judged) (cycle : ℕ) → up_to cycle (live judged) ≡ up_to cycle (live other) → outputs holds judged cycle ≡ outputs holds other cycle
+outputs-same holds judged other cycle same = ap (map (λ (p : ℕ × Event). p.1)) (put_out-same holds judged other cycle same)
+
+-- and have the same busy ones up to it
+pub busy-same : (holds : List ℕ) (judged other : List Judged) (cycle : ℕ) → up_to cycle (live judged) ≡ up_to cycle (live other) → up_to cycle (busy holds (keepers (live judged))) ≡ up_to cycle (busy holds (keepers (live other)))
+busy-same holds judged other cycle same =
+    busy-settled holds judged cycle ∙ ap (λ (events : List (ℕ × Event)). busy holds (keepers events)) same ∙ sym (busy-settled holds other cycle)
 
 -- and have the same collisions up to it
 pub collided-same : (judged other : List Judged) (cycle : ℕ) → up_to cycle (live judged) ≡ up_to cycle (live other) → up_to cycle (collisions (live judged)) ≡ up_to cycle (collisions (live other))
@@ -98,25 +119,10 @@ up_to-up_to cycle later events le =
 pub live-up_to-accepted : (judged : List Judged) (number at : ℕ) (e : Event) (k cycle : ℕ) → cycle < cycle_of e → up_to cycle (live (judged ++ Submitted number at e (Lane k) ∷ [])) ≡ up_to cycle (live judged)
 live-up_to-accepted judged number at e k cycle later = ap (up_to cycle) (live-accepted judged number at e k) ∙ up_to-push cycle (live judged) (number, e) later
 
-pub outputs-accepted : (judged : List Judged) (number at : ℕ) (e : Event) (k cycle : ℕ) → cycle < cycle_of e → outputs (judged ++ Submitted number at e (Lane k) ∷ []) cycle ≡ outputs judged cycle
-outputs-accepted judged number at e k cycle later = outputs-same (judged ++ Submitted number at e (Lane k) ∷ []) judged cycle (live-up_to-accepted judged number at e k cycle later)
-
-pub collided-accepted : (judged : List Judged) (number at : ℕ) (e : Event) (k cycle : ℕ) → cycle < cycle_of e → up_to cycle (collisions (live (judged ++ Submitted number at e (Lane k) ∷ []))) ≡ up_to cycle (collisions (live judged))
-collided-accepted judged number at e k cycle later = collided-same (judged ++ Submitted number at e (Lane k) ∷ []) judged cycle (live-up_to-accepted judged number at e k cycle later)
-
 -- nor does an event that no lane takes
-pub outputs-unplaced : (judged : List Judged) (number at : ℕ) (e : Event) (v : Verdict) (cycle : ℕ) → IsUnplaced v → outputs (judged ++ Submitted number at e v ∷ []) cycle ≡ outputs judged cycle
-outputs-unplaced judged number at e v cycle un = outputs-same (judged ++ Submitted number at e v ∷ []) judged cycle (ap (up_to cycle) (live-unplaced judged number at e v un))
-
-pub collided-unplaced : (judged : List Judged) (number at : ℕ) (e : Event) (v : Verdict) (cycle : ℕ) → IsUnplaced v → up_to cycle (collisions (live (judged ++ Submitted number at e v ∷ []))) ≡ up_to cycle (collisions (live judged))
-collided-unplaced judged number at e v cycle un = collided-same (judged ++ Submitted number at e v ∷ []) judged cycle (ap (up_to cycle) (live-unplaced judged number at e v un))
+pub live-up_to-unplaced : (judged : List Judged) (number at : ℕ) (e : Event) (v : Verdict) (cycle : ℕ) → IsUnplaced v → up_to cycle (live (judged ++ Submitted number at e v ∷ [])) ≡ up_to cycle (live judged)
+live-up_to-unplaced judged number at e v cycle un = ap (up_to cycle) (live-unplaced judged number at e v un)
 
 -- nor does a clearing at this counter or a later one
 pub live-up_to-cleared : (judged : List Judged) (at cycle : ℕ) → cycle ≤ at → up_to cycle (live (judged ++ Cleared at ∷ [])) ≡ up_to cycle (live judged)
 live-up_to-cleared judged at cycle le = ap (up_to cycle) (live-cleared judged at) ∙ up_to-up_to cycle at (live judged) le
-
-pub outputs-cleared : (judged : List Judged) (at cycle : ℕ) → cycle ≤ at → outputs (judged ++ Cleared at ∷ []) cycle ≡ outputs judged cycle
-outputs-cleared judged at cycle le = outputs-same (judged ++ Cleared at ∷ []) judged cycle (live-up_to-cleared judged at cycle le)
-
-pub collided-cleared : (judged : List Judged) (at cycle : ℕ) → cycle ≤ at → up_to cycle (collisions (live (judged ++ Cleared at ∷ []))) ≡ up_to cycle (collisions (live judged))
-collided-cleared judged at cycle le = collided-same (judged ++ Cleared at ∷ []) judged cycle (live-up_to-cleared judged at cycle le)

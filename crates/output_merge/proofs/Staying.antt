@@ -5,10 +5,11 @@ use Rattle.sed_lanes.specs.Judged.{Judged, LaneStep, Submit, Clear, Submitted, j
 use Rattle.sed_lanes.specs.Verdict.{Verdict, Underflow, Lane, Sequence, Undecided, verdict}
 use Rattle.sed_lanes.proofs.Histories.{judged-clear, judged-submit}
 use Rattle.sed_lanes.proofs.RisingLanes.{takes-in-time}
-use Rattle.output_merge.specs.Groups.{collisions}
+use Rattle.output_merge.specs.Busy.{busy}
+use Rattle.output_merge.specs.Groups.{collisions, keepers}
 use Rattle.output_merge.specs.Live.{live}
 use Rattle.output_merge.specs.Outputs.{outputs, up_to}
-use Rattle.output_merge.proofs.Parts.{collided-same, live-up_to-accepted, live-up_to-cleared, outputs-same}
+use Rattle.output_merge.proofs.Parts.{busy-same, collided-same, live-up_to-accepted, live-up_to-cleared, outputs-same}
 use Rattle.output_merge.proofs.Steps.{live-unplaced}
 
 -- a step at a counter or a later one leaves the live events up to it
@@ -40,9 +41,14 @@ live-stays lanes depth steps (step ∷ more) counter to in_time =
     ∙ live-stays-step lanes depth steps step counter in_time.0
 
 -- so what was put out up to the counter stays
-pub outputs-stay : (lanes depth : ℕ) (steps more : List LaneStep) (counter to : ℕ) → NeverFall counter more to → outputs (judged lanes depth (steps ++ more)) counter ≡ outputs (judged lanes depth steps) counter
-outputs-stay lanes depth steps more counter to in_time =
-    outputs-same (judged lanes depth (steps ++ more)) (judged lanes depth steps) counter (live-stays lanes depth steps more counter to in_time)
+pub outputs-stay : (holds : List ℕ) (lanes depth : ℕ) (steps more : List LaneStep) (counter to : ℕ) → NeverFall counter more to → outputs holds (judged lanes depth (steps ++ more)) counter ≡ outputs holds (judged lanes depth steps) counter
+outputs-stay holds lanes depth steps more counter to in_time =
+    outputs-same holds (judged lanes depth (steps ++ more)) (judged lanes depth steps) counter (live-stays lanes depth steps more counter to in_time)
+
+-- and what was busy
+pub busy-stay : (holds : List ℕ) (lanes depth : ℕ) (steps more : List LaneStep) (counter to : ℕ) → NeverFall counter more to → up_to counter (busy holds (keepers (live (judged lanes depth (steps ++ more))))) ≡ up_to counter (busy holds (keepers (live (judged lanes depth steps))))
+busy-stay holds lanes depth steps more counter to in_time =
+    busy-same holds (judged lanes depth (steps ++ more)) (judged lanes depth steps) counter (live-stays lanes depth steps more counter to in_time)
 
 -- and what collided
 pub collided-stay : (lanes depth : ℕ) (steps more : List LaneStep) (counter to : ℕ) → NeverFall counter more to → up_to counter (collisions (live (judged lanes depth (steps ++ more)))) ≡ up_to counter (collisions (live (judged lanes depth steps)))

@@ -3,11 +3,12 @@ use Rattle.std.specs.Prelude.{ℕ, Bool, true, false, List, map, filter}
 use Rattle.rtio_types.specs.declared.event.Event.{Event}
 use Rattle.rtio_log.specs.declared.LogLine.{LogLine}
 use Rattle.rtio_log.specs.declared.LogKind.{LogKind}
-use Rattle.rtio_log.specs.declared.LogKind.TheVariants.{Sequence, Collision, Cleared}
+use Rattle.rtio_log.specs.declared.LogKind.TheVariants.{Sequence, Collision, Busy, Cleared}
 
 abbrev pub is_kind : LogKind → LogKind → Bool
 is_kind Sequence Sequence = true
 is_kind Collision Collision = true
+is_kind Busy Busy = true
 is_kind Cleared Cleared = true
 is_kind kind other = false
 

@@ -14,6 +14,8 @@ pub enum LogKind {
     Sequence,
     /// It collided with an event of its channel and cycle that was put out (ARTIQ manual).
     Collision,
+    /// Its channel was still executing an earlier event (ARTIQ manual: busy).
+    Busy,
     /// A reset took it away before its cycle.
     Cleared,
 }
@@ -56,6 +58,13 @@ impl Log {
             lines: Vec::new(alloc),
             room: 0,
         }
+    }
+
+    /// How many lines more there is room for.
+    pub fn room(&self) -> u64
+        ensures { result ≡ self.now.room }
+    {
+        self.room
     }
 
     /// Takes room for so many lines more.
