@@ -1,5 +1,5 @@
 -- Runs of straight kernels on a core: what the timeline asks, what the core answers and when, and how the run ends.
-use Rattle.std.specs.Prelude.{◌≡◌, ℕ, List, [], ◌∷◌, ◌++◌, map, false, ℤ, pos, None, Some}
+use Rattle.std.specs.Prelude.{◌≡◌, ℕ, List, [], ◌∷◌, ◌++◌, map, false, ℤ, pos, None, Some, replicate}
 use Rattle.rtio_types.specs.declared.outcome.Outcome.{Outcome}
 use Rattle.rtio_types.specs.declared.outcome.Outcome.TheVariants as outcome
 use Rattle.rtio_types.specs.declared.request.Request.{Request}
@@ -26,7 +26,7 @@ meant program replies = meaning program 0 [] (pos 0) budget replies
 
 -- the settings of the core
 abbrev pub default_config : Config
-default_config = record { lanes = 8; depth = 128; cost = 0; horizon = 134217728; edges = [] }
+default_config = record { lanes = 8; depth = 128; cost = 0; horizon = 134217728; edges = []; holds = replicate 32 0; kept = [] }
 
 -- what the session runs: function 0 of source 0, without arguments, for the first step of run 0
 abbrev pub start_of_main : StartOf

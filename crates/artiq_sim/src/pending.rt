@@ -75,6 +75,7 @@ pub fn is_kind(kind: LogKind, other: LogKind) -> bool
     match (kind, other) {
         (LogKind::Sequence, LogKind::Sequence)
         | (LogKind::Collision, LogKind::Collision)
+        | (LogKind::Busy, LogKind::Busy)
         | (LogKind::Cleared, LogKind::Cleared) => true,
         _ => false,
     }

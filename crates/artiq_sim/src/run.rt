@@ -13,7 +13,7 @@ ghost use Rattle.artiq_sim.specs.Entries.{asks_output};
 ghost use Rattle.artiq_sim.specs.Steps.{HasSteps};
 
 use crate::step::Step;
-use rtio_core::{Ask, Config, Core, StartEnd, StartOf, Tick};
+use rtio_core::{Ask, Config, Core, NamedList, StartEnd, StartOf, Tick};
 use rtio_types::{EdgeList, Event, Exc, IntList, Outcome, Reply, Request};
 use std::alloc::{AllocError, Global};
 
@@ -68,6 +68,8 @@ fn started(alloc: Global) -> Result<Core, AllocError>
         cost: 0,
         horizon: 134_217_728,
         edges: EdgeList::of(Vec::new(alloc)),
+        holds: [0; 32],
+        kept: NamedList::of(Vec::new(alloc)),
     };
     let mut core = Core::new(alloc, config)?;
     let main = StartOf {

@@ -44,14 +44,14 @@ abbrev pub asked_entry : ℕ → Request → Reply → ℕ → Entry
 asked_entry who request reply at = record { chair = who; act = Asked request reply at }
 
 -- a request may be answered where the counter stands
-asked-bound : (config : Config) (history : List Entry) (pending : Option Waiting) (request : Request) (counter : ℕ) (running : ℕ × ℕ) → open_session history ≡ Some running → NoOtherWaits pending request → counter ≤ top config history (option_map request_waiting pending) → counter ≤ top config history (Some request)
+pub asked-bound : (config : Config) (history : List Entry) (pending : Option Waiting) (request : Request) (counter : ℕ) (running : ℕ × ℕ) → open_session history ≡ Some running → NoOtherWaits pending request → counter ≤ top config history (option_map request_waiting pending) → counter ≤ top config history (Some request)
 asked-bound config history None request counter running is no_other le =
     let reached : counter ≤ min config.horizon (limit config.cost history / 8) = rw is at le in
     rw is (omega (arith, reached))
 asked-bound config history (Some w) request counter running is no_other le = subst (λ (q : Request). counter ≤ top config history (Some q)) no_other le
 
 -- the limit at the end of its type
-capped-limit : (left before limit_before at cost : ℕ) → at ≤ 134217728 → before ≡ min limit_before (2 ^ 64 - 1) → left ≡ min (max before (reading at) + cost) (2 ^ 64 - 1) → left ≡ min (max limit_before (reading at) + cost) (2 ^ 64 - 1)
+capped-limit : (left before limit_before at cost : ℕ) → at ≤ 576460752303423488 → before ≡ min limit_before (2 ^ 64 - 1) → left ≡ min (max before (reading at) + cost) (2 ^ 64 - 1) → left ≡ min (max limit_before (reading at) + cost) (2 ^ 64 - 1)
 capped-limit left before limit_before at cost few was is = omega (arith, few, was, is)
 
 -- an answer, and what it makes of outputs, inputs and recordings
@@ -61,9 +61,9 @@ pub record IsAnswer (a : Inside) (outputs : Outputs) (inputs : InputsState) (sto
   pub formed : IsTrue (is_well_formed request)
   pub fits : IsTrue (fits_request request reply)
   pub right : reply_to a.config a.entries.items request a.count ≡ Some reply
-  pub played : IsPlayed outputs a.config.lanes a.config.depth (lane_steps (a.entries.items ++ asked_entry who request reply a.count ∷ [])) a.count
+  pub played : IsPlayed outputs a.config.holds a.config.lanes a.config.depth (lane_steps (a.entries.items ++ asked_entry who request reply a.count ∷ [])) a.count
   pub stands : InputsStandFor inputs a.config.edges (outputs_at a.config a.entries.items a.count) (input_steps a.entries.items ++ input_steps (asked_entry who request reply a.count ∷ [])) a.count
-  pub store_is : store ≡ kept_after (a.entries.items ++ asked_entry who request reply a.count ∷ [])
+  pub store_is : store ≡ kept_after a.config (a.entries.items ++ asked_entry who request reply a.count ∷ [])
 
 pub asked_keeps : (a : Inside) (entries : Vec Entry Global) (outputs : Outputs) (inputs : InputsState) (store : KeptState) (who : ℕ) (request : Request) (reply : Reply) (left : ℕ) → IsCoreInside a → IsAnswer a outputs inputs store who request reply → entries.items ≡ a.entries.items ++ asked_entry who request reply a.count ∷ [] → left ≡ min (max a.limit (reading a.count) + a.config.cost) (2 ^ 64 - 1) → IsCoreInside (record a { entries = entries; pending = None; outputs = outputs; inputs = inputs; store = store; limit = left })
 asked_keeps a entries outputs inputs store who request reply left h n is raised =
@@ -73,7 +73,7 @@ asked_keeps a entries outputs inputs store who request reply left h n is raised 
     let still : open_session (history ++ entry ∷ []) ≡ open_session history = fold-append _ _ history (entry ∷ []) in
     let limited : limit a.config.cost (history ++ entry ∷ []) ≡ max (limit a.config.cost history) (reading a.count) + a.config.cost = fold-append _ _ history (entry ∷ []) in
     let within : a.count ≤ a.config.horizon = omega (arith, h.core.bounded) in
-    let few : a.count ≤ 134217728 = omega (arith, within, horizon-most a.config h.core.config) in
+    let few : a.count ≤ 576460752303423488 = omega (arith, within, horizon-most a.config h.core.config) in
     let far : 8 * a.count ≤ limit a.config.cost (history ++ entry ∷ []) = omega (arith, limited) in
     entry_keeps a entries entry outputs inputs store a.session a.cursor left h
     (record {
@@ -97,7 +97,7 @@ pub record IsAsked (s : CoreState) (who : ℕ) (request : Request) (reply : Repl
   pub right : reply_to s.config s.history request s.counter ≡ Some reply
 
 -- an answer that has no part in outputs and inputs
-pub quiet_keeps : (a : Inside) (s : CoreState) (entries : Vec Entry Global) (store : KeptState) (who : ℕ) (request : Request) (reply : Reply) (left : ℕ) → core_state a ≡ s → IsCoreInside a → IsAsked s who request reply → IsTrue (fits_request request reply) → lane_step (Asked request reply a.count) ≡ None → input_step (Asked request reply a.count) ≡ None → store ≡ kept_after (a.entries.items ++ asked_entry who request reply a.count ∷ []) → entries.items ≡ a.entries.items ++ asked_entry who request reply a.count ∷ [] → left ≡ min (max a.limit (reading a.count) + a.config.cost) (2 ^ 64 - 1) → IsCoreInside (record a { entries = entries; pending = None; store = store; limit = left })
+pub quiet_keeps : (a : Inside) (s : CoreState) (entries : Vec Entry Global) (store : KeptState) (who : ℕ) (request : Request) (reply : Reply) (left : ℕ) → core_state a ≡ s → IsCoreInside a → IsAsked s who request reply → IsTrue (fits_request request reply) → lane_step (Asked request reply a.count) ≡ None → input_step (Asked request reply a.count) ≡ None → store ≡ kept_after a.config (a.entries.items ++ asked_entry who request reply a.count ∷ []) → entries.items ≡ a.entries.items ++ asked_entry who request reply a.count ∷ [] → left ≡ min (max a.limit (reading a.count) + a.config.cost) (2 ^ 64 - 1) → IsCoreInside (record a { entries = entries; pending = None; store = store; limit = left })
 quiet_keeps a s entries store who request reply left see h asked fits no_output no_input kept is raised =
     let known : IsAsked (core_state a) who request reply = subst (λ (x : CoreState). IsAsked x who request reply) (sym see) asked in
     let no_step : [] ≡ input_steps (asked_entry who request reply a.count ∷ []) = rw no_input refl in
@@ -133,11 +133,11 @@ no-input (ask.Wait until) reply at plain = refl
 no-input (ask.Data name value) reply at plain = refl
 no-input other reply at plain = absurd (cc)
 
-no-recording : (request : Request) (reply : Reply) (who at : ℕ) (history : List Entry) → IsTrue (is_plain request) → kept_after (history ++ asked_entry who request reply at ∷ []) ≡ kept_after history
-no-recording ask.Counter reply who at history plain = fold-append _ _ history (asked_entry who ask.Counter reply at ∷ [])
-no-recording (ask.Wait until) reply who at history plain = fold-append _ _ history (asked_entry who (ask.Wait until) reply at ∷ [])
-no-recording (ask.Data name value) reply who at history plain = fold-append _ _ history (asked_entry who (ask.Data name value) reply at ∷ [])
-no-recording other reply who at history plain = absurd (cc)
+no-recording : (config : Config) (request : Request) (reply : Reply) (who at : ℕ) (history : List Entry) → IsTrue (is_plain request) → kept_after config (history ++ asked_entry who request reply at ∷ []) ≡ kept_after config history
+no-recording config ask.Counter reply who at history plain = fold-append _ _ history (asked_entry who ask.Counter reply at ∷ [])
+no-recording config (ask.Wait until) reply who at history plain = fold-append _ _ history (asked_entry who (ask.Wait until) reply at ∷ [])
+no-recording config (ask.Data name value) reply who at history plain = fold-append _ _ history (asked_entry who (ask.Data name value) reply at ∷ [])
+no-recording config other reply who at history plain = absurd (cc)
 
 plain-fits : (request : Request) (counter : ℕ) → IsTrue (is_plain request) → IsTrue (fits_request request (plain_reply request counter))
 plain-fits ask.Counter counter plain = refl
@@ -153,10 +153,10 @@ plain_keeps a s entries who request reply left see h running no_other formed pla
     quiet_keeps a s entries a.store who request reply left see h
     (record { running = running; no_other = no_other; formed = formed; right = right ∙ ap (λ (r : Reply). Some r) same })
     (subst (λ (r : Reply). IsTrue (fits_request request r)) (sym replies) (plain-fits request a.count plain))
-    (no-output request reply a.count plain) (no-input request reply a.count plain) (h.store ∙ sym (no-recording request reply who a.count a.entries.items plain)) is raised
+    (no-output request reply a.count plain) (no-input request reply a.count plain) (h.store ∙ sym (no-recording a.config request reply who a.count a.entries.items plain)) is raised
 
 -- an answered output
-pub output_keeps : (a : Inside) (s : CoreState) (entries : Vec Entry Global) (outputs : Outputs) (who : ℕ) (e : Event) (reply : Reply) (left : ℕ) → core_state a ≡ s → IsCoreInside a → IsOpenFor who s.history → NoOtherWaits s.waiting (ask.Out e) → IsTrue (is_well_formed (ask.Out e)) → IsTrue (fits_request (ask.Out e) reply) → reply_to_event (verdict_at s.config s.history e s.counter) ≡ Some reply → IsPlayed outputs a.config.lanes a.config.depth (lane_steps a.entries.items ++ Submit a.count e ∷ []) a.count → entries.items ≡ a.entries.items ++ asked_entry who (ask.Out e) reply a.count ∷ [] → left ≡ min (max a.limit (reading a.count) + a.config.cost) (2 ^ 64 - 1) → IsCoreInside (record a { entries = entries; pending = None; outputs = outputs; limit = left })
+pub output_keeps : (a : Inside) (s : CoreState) (entries : Vec Entry Global) (outputs : Outputs) (who : ℕ) (e : Event) (reply : Reply) (left : ℕ) → core_state a ≡ s → IsCoreInside a → IsOpenFor who s.history → NoOtherWaits s.waiting (ask.Out e) → IsTrue (is_well_formed (ask.Out e)) → IsTrue (fits_request (ask.Out e) reply) → reply_to_event (verdict_at s.config s.history e s.counter) ≡ Some reply → IsPlayed outputs a.config.holds a.config.lanes a.config.depth (lane_steps a.entries.items ++ Submit a.count e ∷ []) a.count → entries.items ≡ a.entries.items ++ asked_entry who (ask.Out e) reply a.count ∷ [] → left ≡ min (max a.limit (reading a.count) + a.config.cost) (2 ^ 64 - 1) → IsCoreInside (record a { entries = entries; pending = None; outputs = outputs; limit = left })
 output_keeps a s entries outputs who e reply left see h running no_other formed fits right played is raised =
     let seen = sym see in
     asked_keeps a entries outputs a.inputs a.store who (ask.Out e) reply left h
@@ -166,13 +166,13 @@ output_keeps a s entries outputs who e reply left see h running no_other formed 
       formed = formed;
       fits = fits;
       right = subst (λ (x : CoreState). reply_to_event (verdict_at x.config x.history e x.counter) ≡ Some reply) seen right;
-      played = subst (λ (steps : List LaneStep). IsPlayed outputs a.config.lanes a.config.depth steps a.count) (sym (lane_steps-output a.entries.items who a.count e reply)) played;
+      played = subst (λ (steps : List LaneStep). IsPlayed outputs a.config.holds a.config.lanes a.config.depth steps a.count) (sym (lane_steps-output a.entries.items who a.count e reply)) played;
       stands = inputs-quiet a h;
       store_is = h.store ∙ sym (fold-append _ _ a.entries.items (asked_entry who (ask.Out e) reply a.count ∷ []));
     }) is raised
 
 -- an answered reset
-pub reset_keeps : (a : Inside) (s : CoreState) (entries : Vec Entry Global) (outputs : Outputs) (inputs : InputsState) (who : ℕ) (reply : Reply) (left : ℕ) → core_state a ≡ s → IsCoreInside a → IsOpenFor who s.history → NoOtherWaits s.waiting ask.Reset → reply ≡ answer.Time (pos (reading a.count)) → IsPlayed outputs a.config.lanes a.config.depth (lane_steps a.entries.items ++ Clear a.count ∷ []) a.count → InputsStandFor inputs a.config.edges (outputs_at a.config a.entries.items a.count) (input_steps a.entries.items ++ Reset a.count ∷ []) a.count → entries.items ≡ a.entries.items ++ asked_entry who ask.Reset reply a.count ∷ [] → left ≡ min (max a.limit (reading a.count) + a.config.cost) (2 ^ 64 - 1) → IsCoreInside (record a { entries = entries; pending = None; outputs = outputs; inputs = inputs; limit = left })
+pub reset_keeps : (a : Inside) (s : CoreState) (entries : Vec Entry Global) (outputs : Outputs) (inputs : InputsState) (who : ℕ) (reply : Reply) (left : ℕ) → core_state a ≡ s → IsCoreInside a → IsOpenFor who s.history → NoOtherWaits s.waiting ask.Reset → reply ≡ answer.Time (pos (reading a.count)) → IsPlayed outputs a.config.holds a.config.lanes a.config.depth (lane_steps a.entries.items ++ Clear a.count ∷ []) a.count → InputsStandFor inputs a.config.edges (outputs_at a.config a.entries.items a.count) (input_steps a.entries.items ++ Reset a.count ∷ []) a.count → entries.items ≡ a.entries.items ++ asked_entry who ask.Reset reply a.count ∷ [] → left ≡ min (max a.limit (reading a.count) + a.config.cost) (2 ^ 64 - 1) → IsCoreInside (record a { entries = entries; pending = None; outputs = outputs; inputs = inputs; limit = left })
 reset_keeps a s entries outputs inputs who reply left see h running no_other replies played stands is raised =
     let seen = sym see in
     asked_keeps a entries outputs inputs a.store who ask.Reset reply left h
@@ -182,7 +182,7 @@ reset_keeps a s entries outputs inputs who reply left see h running no_other rep
       formed = refl;
       fits = subst (λ (r : Reply). IsTrue (fits_request ask.Reset r)) (sym replies) refl;
       right = ap (λ (r : Reply). Some r) (sym replies);
-      played = subst (λ (steps : List LaneStep). IsPlayed outputs a.config.lanes a.config.depth steps a.count) (sym (lane_steps-reset a.entries.items who a.count reply)) played;
+      played = subst (λ (steps : List LaneStep). IsPlayed outputs a.config.holds a.config.lanes a.config.depth steps a.count) (sym (lane_steps-reset a.entries.items who a.count reply)) played;
       stands = stands;
       store_is = h.store ∙ sym (fold-append _ _ a.entries.items (asked_entry who ask.Reset reply a.count ∷ []));
     }) is raised

@@ -9,6 +9,7 @@ use Rattle.rtio_types.specs.declared.request.Request.TheVariants as ask
 use Rattle.rtio_types.specs.declared.request.Reply.{Reply}
 use Rattle.rtio_types.specs.declared.request.Reply.TheVariants as answer
 use Rattle.rtio_types.specs.Time.{cycle_of}
+use Rattle.output_merge.specs.Busy.{put_out}
 use Rattle.output_merge.specs.Groups.{keepers}
 use Rattle.output_merge.specs.Live.{live}
 use Rattle.output_merge.specs.Outputs.{up_to}
@@ -38,14 +39,14 @@ out-by counter (p ∷ events) = at (nat_le (cycle_of p.1) counter) refl (out-by 
 
 -- what is put out up to a counter is of no later cycle
 outputs-by : (config : Config) (history : List Entry) (counter : ℕ) → are_put_out_by counter (outputs_at config history counter) ≡ true
-outputs-by config history counter = out-by counter (keepers (live (judged_history config history)))
+outputs-by config history counter = out-by counter (put_out config.holds (keepers (live (judged_history config history))))
 
 -- the events of the next cycle
 abbrev pub next_outputs : Config → List Entry → ℕ → List Event
-next_outputs config history counter = map (λ p. p.1) (of_cycle (counter + 1) (keepers (live (judged_history config history))))
+next_outputs config history counter = map (λ p. p.1) (of_cycle (counter + 1) (put_out config.holds (keepers (live (judged_history config history)))))
 
 pub outputs-grow : (config : Config) (history : List Entry) (counter : ℕ) → outputs_at config history (counter + 1) ≡ outputs_at config history counter ++ next_outputs config history counter
-outputs-grow config history counter = outputs-next (judged_history config history) counter
+outputs-grow config history counter = outputs-next config.holds (judged_history config history) counter
 
 events-of : (cycle : ℕ) (events : List (ℕ × Event)) → are_of_cycle cycle (map (λ p. p.1) (of_cycle cycle events)) ≡ true
 events-of cycle [] = refl
@@ -56,7 +57,7 @@ events-of cycle (p ∷ events) = at (cycle_of p.1 == cycle) refl (events-of cycl
     at false is ih = ih
 
 pub next-of-cycle : (config : Config) (history : List Entry) (counter : ℕ) → are_of_cycle (counter + 1) (next_outputs config history counter) ≡ true
-next-of-cycle config history counter = events-of (counter + 1) (keepers (live (judged_history config history)))
+next-of-cycle config history counter = events-of (counter + 1) (put_out config.holds (keepers (live (judged_history config history))))
 
 -- an entry isn't earlier than the last one
 not-earlier : (config : Config) (before : List Entry) (chair : ℕ) (act : Act) → MayFollow config before chair act → last_at before ≤ act_at act

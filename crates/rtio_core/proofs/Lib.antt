@@ -4,6 +4,7 @@ pub mod Laws
 pub mod Settings
 pub mod Next
 pub mod Made
+mod Handing
 mod Moves
 mod LogLines
 mod LogOrder

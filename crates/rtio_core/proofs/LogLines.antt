@@ -6,7 +6,7 @@ use Rattle.std.proofs.lemmas.List.Elements.{filter-append}
 use Rattle.rtio_types.specs.declared.event.Event.{Event}
 use Rattle.rtio_log.specs.declared.LogLine.{LogLine}
 use Rattle.rtio_log.specs.declared.LogKind.{LogKind}
-use Rattle.rtio_log.specs.declared.LogKind.TheVariants.{Sequence, Collision, Cleared}
+use Rattle.rtio_log.specs.declared.LogKind.TheVariants.{Sequence, Collision, Busy, Cleared}
 use Rattle.rtio_log.specs.Kinds.{is_kind, lines_of}
 use Rattle.output_merge.specs.Outputs.{LogLists}
 use Rattle.rtio_core.specs.Lines.{lines_for}
@@ -36,33 +36,46 @@ more-other kind other lines pairs told differ is =
     lines_of-append kind lines (lines_for other pairs) ∙ ap (λ ps. lines_of kind lines ++ ps) (lines_of-other kind other pairs differ) ∙ append-nil _ ∙ is
 
 -- events out of sequence
-pub tells-sequence : (old new : LogLists) (lines : List LogLine) (pairs : List (ℕ × Event)) → TellsLog old lines → new.sequence ≡ old.sequence ++ pairs → new.collided ≡ old.collided → new.cleared ≡ old.cleared → TellsLog new (lines ++ lines_for Sequence pairs)
-tells-sequence old new lines pairs h sequence collided cleared = record {
+pub tells-sequence : (old new : LogLists) (lines : List LogLine) (pairs : List (ℕ × Event)) → TellsLog old lines → new.sequence ≡ old.sequence ++ pairs → new.collided ≡ old.collided → new.busy ≡ old.busy → new.cleared ≡ old.cleared → TellsLog new (lines ++ lines_for Sequence pairs)
+tells-sequence old new lines pairs h sequence collided busy cleared = record {
   sequence = more-own Sequence lines pairs old.sequence refl h.sequence ∙ sym sequence;
   collided = more-other Collision Sequence lines pairs old.collided refl h.collided ∙ sym collided;
+  busy = more-other Busy Sequence lines pairs old.busy refl h.busy ∙ sym busy;
   cleared = more-other Cleared Sequence lines pairs old.cleared refl h.cleared ∙ sym cleared;
 }
 
 -- events that collide
-pub tells-collided : (old new : LogLists) (lines : List LogLine) (pairs : List (ℕ × Event)) → TellsLog old lines → new.sequence ≡ old.sequence → new.collided ≡ old.collided ++ pairs → new.cleared ≡ old.cleared → TellsLog new (lines ++ lines_for Collision pairs)
-tells-collided old new lines pairs h sequence collided cleared = record {
+pub tells-collided : (old new : LogLists) (lines : List LogLine) (pairs : List (ℕ × Event)) → TellsLog old lines → new.sequence ≡ old.sequence → new.collided ≡ old.collided ++ pairs → new.busy ≡ old.busy → new.cleared ≡ old.cleared → TellsLog new (lines ++ lines_for Collision pairs)
+tells-collided old new lines pairs h sequence collided busy cleared = record {
   sequence = more-other Sequence Collision lines pairs old.sequence refl h.sequence ∙ sym sequence;
   collided = more-own Collision lines pairs old.collided refl h.collided ∙ sym collided;
+  busy = more-other Busy Collision lines pairs old.busy refl h.busy ∙ sym busy;
   cleared = more-other Cleared Collision lines pairs old.cleared refl h.cleared ∙ sym cleared;
 }
 
+-- events that found their channels busy
+pub tells-busy : (old new : LogLists) (lines : List LogLine) (pairs : List (ℕ × Event)) → TellsLog old lines → new.sequence ≡ old.sequence → new.collided ≡ old.collided → new.busy ≡ old.busy ++ pairs → new.cleared ≡ old.cleared → TellsLog new (lines ++ lines_for Busy pairs)
+tells-busy old new lines pairs h sequence collided busy cleared = record {
+  sequence = more-other Sequence Busy lines pairs old.sequence refl h.sequence ∙ sym sequence;
+  collided = more-other Collision Busy lines pairs old.collided refl h.collided ∙ sym collided;
+  busy = more-own Busy lines pairs old.busy refl h.busy ∙ sym busy;
+  cleared = more-other Cleared Busy lines pairs old.cleared refl h.cleared ∙ sym cleared;
+}
+
 -- events that a reset took away
-pub tells-cleared : (old new : LogLists) (lines : List LogLine) (pairs : List (ℕ × Event)) → TellsLog old lines → new.sequence ≡ old.sequence → new.collided ≡ old.collided → new.cleared ≡ old.cleared ++ pairs → TellsLog new (lines ++ lines_for Cleared pairs)
-tells-cleared old new lines pairs h sequence collided cleared = record {
+pub tells-cleared : (old new : LogLists) (lines : List LogLine) (pairs : List (ℕ × Event)) → TellsLog old lines → new.sequence ≡ old.sequence → new.collided ≡ old.collided → new.busy ≡ old.busy → new.cleared ≡ old.cleared ++ pairs → TellsLog new (lines ++ lines_for Cleared pairs)
+tells-cleared old new lines pairs h sequence collided busy cleared = record {
   sequence = more-other Sequence Cleared lines pairs old.sequence refl h.sequence ∙ sym sequence;
   collided = more-other Collision Cleared lines pairs old.collided refl h.collided ∙ sym collided;
+  busy = more-other Busy Cleared lines pairs old.busy refl h.busy ∙ sym busy;
   cleared = more-own Cleared lines pairs old.cleared refl h.cleared ∙ sym cleared;
 }
 
 -- the lists stay the same
-pub tells-same : (old new : LogLists) (lines : List LogLine) → TellsLog old lines → new.sequence ≡ old.sequence → new.collided ≡ old.collided → new.cleared ≡ old.cleared → TellsLog new lines
-tells-same old new lines h sequence collided cleared = record {
+pub tells-same : (old new : LogLists) (lines : List LogLine) → TellsLog old lines → new.sequence ≡ old.sequence → new.collided ≡ old.collided → new.busy ≡ old.busy → new.cleared ≡ old.cleared → TellsLog new lines
+tells-same old new lines h sequence collided busy cleared = record {
   sequence = h.sequence ∙ sym sequence;
   collided = h.collided ∙ sym collided;
+  busy = h.busy ∙ sym busy;
   cleared = h.cleared ∙ sym cleared;
 }

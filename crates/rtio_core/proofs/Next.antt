@@ -55,8 +55,8 @@ entry-in-time chair (End outcome cursor at) counter is = omega arith
 pub outputs-kept : (config : Config) (history : List Entry) (entry : Entry) (counter : ℕ) → act_at entry.act ≡ counter → outputs_at config (history ++ entry ∷ []) counter ≡ outputs_at config history counter
 outputs-kept config history entry counter at =
     let grows : lane_steps (history ++ entry ∷ []) ≡ lane_steps history ++ lane_steps (entry ∷ []) = filter_map-append (λ (e : Entry). lane_step e.act) history (entry ∷ []) in
-    ap (λ (steps : List LaneStep). outputs (judged config.lanes config.depth steps) counter) grows
-    ∙ outputs-stay config.lanes config.depth (lane_steps history) (lane_steps (entry ∷ [])) counter counter (entry-in-time entry.chair entry.act counter at)
+    ap (λ (steps : List LaneStep). outputs config.holds (judged config.lanes config.depth steps) counter) grows
+    ∙ outputs-stay config.holds config.lanes config.depth (lane_steps history) (lane_steps (entry ∷ [])) counter counter (entry-in-time entry.chair entry.act counter at)
 
 -- so the inputs stand for the history with it where they stand for one step of the inputs more, or for none if it is none
 pub inputs-grown : (config : Config) (history : List Entry) (entry : Entry) (counter : ℕ) (inputs : InputsState) → act_at entry.act ≡ counter → InputsStandFor inputs config.edges (outputs_at config history counter) (input_steps history ++ input_steps (entry ∷ [])) counter → InputsStandFor inputs config.edges (outputs_at config (history ++ entry ∷ []) counter) (input_steps (history ++ entry ∷ [])) counter
@@ -71,9 +71,9 @@ pub record IsNextEntry (a : Inside) (entry : Entry) (outputs : Outputs) (inputs 
   pub may : MayFollow a.config a.entries.items entry.chair entry.act
   pub fitting : IsActFitting entry.act
   pub bounded : a.count ≤ top a.config (a.entries.items ++ entry ∷ []) None
-  pub played : IsPlayed outputs a.config.lanes a.config.depth (lane_steps (a.entries.items ++ entry ∷ [])) a.count
+  pub played : IsPlayed outputs a.config.holds a.config.lanes a.config.depth (lane_steps (a.entries.items ++ entry ∷ [])) a.count
   pub stands : InputsStandFor inputs a.config.edges (outputs_at a.config a.entries.items a.count) (input_steps a.entries.items ++ input_steps (entry ∷ [])) a.count
-  pub store_is : store ≡ kept_after (a.entries.items ++ entry ∷ [])
+  pub store_is : store ≡ kept_after a.config (a.entries.items ++ entry ∷ [])
   pub session_is : session ≡ open_session (a.entries.items ++ entry ∷ [])
   pub cursor_is : cursor ≡ last_cursor (a.entries.items ++ entry ∷ [])
   pub limit_is : left ≡ min (limit a.config.cost (a.entries.items ++ entry ∷ [])) (2 ^ 64 - 1)
@@ -106,7 +106,7 @@ pub inputs-quiet : (a : Inside) → IsCoreInside a → InputsStandFor a.inputs a
 inputs-quiet a h = rw append-nil h.inputs
 
 -- an entry that is no output and no reset leaves the outputs as they are
-pub played-quiet : (a : Inside) (entry : Entry) → IsCoreInside a → lane_step entry.act ≡ None → IsPlayed a.outputs a.config.lanes a.config.depth (lane_steps (a.entries.items ++ entry ∷ [])) a.count
+pub played-quiet : (a : Inside) (entry : Entry) → IsCoreInside a → lane_step entry.act ≡ None → IsPlayed a.outputs a.config.holds a.config.lanes a.config.depth (lane_steps (a.entries.items ++ entry ∷ [])) a.count
 played-quiet a entry h quiet = rw (lane_steps-quiet a.entries.items entry quiet) h.played
 
 -- the end of a session may stand at the counter
@@ -157,7 +157,7 @@ start_keeps a entries who of session cursor left h free same is running reading_
     let opened : open_session (history ++ entry ∷ []) ≡ Some (who, of.rid) = fold-append _ _ history (entry ∷ []) in
     let limited : limit a.config.cost (history ++ entry ∷ []) ≡ 8 * a.count = fold-append _ _ history (entry ∷ []) in
     let within : a.count ≤ a.config.horizon = omega (arith, h.core.bounded) in
-    let horizon : a.config.horizon ≤ 134217728 = horizon-most a.config h.core.config in
+    let horizon : a.config.horizon ≤ 576460752303423488 = horizon-most a.config h.core.config in
     let bounded : a.count ≤ top a.config history None = subst (λ (w : Option Waiting). a.count ≤ top a.config history (option_map request_waiting w)) none h.core.bounded in
     let kept : IsCoreInside (record a { entries = entries; pending = None; session = session; cursor = a.cursor; limit = left }) =
     entry_keeps a entries entry a.outputs a.inputs a.store session a.cursor left h

@@ -1,6 +1,6 @@
 -- That no output underflows without a reason.
 use Rattle.std.proofs.Common.{◌≡◌, ◌+◌, ◌-◌, ◌*◌, ◌/◌, ◌<◌, ◌≤◌, ◌⊎◌, inl, inr, ℕ, false, List, [], ◌∷◌, ◌++◌, refl, ap, sym, subst, ◌∙◌, arith, append_assoc, append-nil}
-use Rattle.std.specs.Prelude.{Option, Some, None, is_some, max, min, option_map}
+use Rattle.std.specs.Prelude.{Option, Some, None, is_some, max, min}
 use Rattle.std.proofs.lemmas.Bool.{cases_lt}
 use Rattle.std.proofs.lemmas.List.Sums.{fold-append}
 use Rattle.rtio_types.specs.declared.event.Event.{Event}
@@ -8,28 +8,28 @@ use Rattle.rtio_types.specs.declared.request.Request.{Request}
 use Rattle.rtio_types.specs.declared.request.Request.TheVariants as ask
 use Rattle.rtio_types.specs.declared.request.Reply.{Reply}
 use Rattle.rtio_types.specs.declared.request.Reply.TheVariants as answer
-use Rattle.rtio_types.specs.declared.request.Waiting.{Waiting}
-use Rattle.rtio_types.specs.Requests.{request_waiting}
 use Rattle.rtio_types.specs.Time.{cycle_of}
 use Rattle.sed_lanes.specs.Verdict.{Verdict, Underflow, Lane, Sequence, Undecided}
 use Rattle.sed_lanes.proofs.Freeing.{undecided-before}
+use Rattle.sed_lanes.proofs.Reasons.{sequence-has-reason}
 use Rattle.sed_lanes.proofs.RisingLanes.{no-underflow}
 use Rattle.rtio_core.specs.declared.data.Act.{Act}
 use Rattle.rtio_core.specs.declared.data.Act.TheVariants.{Start, Asked, End}
 use Rattle.rtio_core.specs.declared.data.Config.{Config}
 use Rattle.rtio_core.specs.declared.data.Entry.{Entry}
-use Rattle.rtio_core.specs.Entries.{lane_steps, last_at, limit, open_session}
+use Rattle.rtio_core.specs.Entries.{judged_history, lane_steps, last_at, limit, open_session}
 use Rattle.rtio_core.specs.Reply.{is_decided, lanes_at, reply_to, reply_to_event, verdict_at}
 use Rattle.rtio_core.specs.Top.{first_decided, top}
-use Rattle.rtio_core.specs.Lawful.{IsOpenFor}
+use Rattle.rtio_core.specs.Lawful.{IsLawfulAfter, IsOpenFor, MayFollow}
 use Rattle.rtio_core.specs.Core.{CoreState, IsCore}
 use Rattle.std.specs.Prelude.{Result, Ok, IfOk}
 use Rattle.rtio_core.specs.declared.data.Ask.{Ask}
 use Rattle.rtio_core.specs.declared.data.Ask.TheVariants as asked
-use Rattle.rtio_core.specs.Calls.{AnswersAsk, NoOtherWaits}
-use Rattle.rtio_core.specs.Errors.{UnderflowHasReason}
+use Rattle.rtio_core.specs.Calls.{AnswersAsk}
+use Rattle.rtio_core.specs.Errors.{HasReason, HaveReasons, UnderflowHasReason}
+use Rattle.rtio_core.proofs.Asked.{asked-bound}
 use Rattle.rtio_core.proofs.Laws.{least_from-before}
-use Rattle.rtio_core.proofs.Settings.{ranges-of}
+use Rattle.rtio_core.proofs.Settings.{AreInRange, ranges-of}
 
 from-front : (P : List Entry → Type 0) → ((front : List Entry) (entry : Entry) → P (front ++ entry ∷ [])) → (front rest : List Entry) → P front → P (front ++ rest)
 from-front P last front [] h = subst P (sym (append-nil front)) h
@@ -90,12 +90,10 @@ not-late config history e counter some deep after before =
     let early = undecided-before config.lanes config.depth (lane_steps history) m e some deep (undecided-verdict (verdict_at config history e m) fails) in
     omega (arith, next, early)
 
-waiting-bound : (config : Config) (history : List Entry) (e : Event) (pending : Option Waiting) (counter : ℕ) (running : ℕ × ℕ) → open_session history ≡ Some running → NoOtherWaits pending (ask.Out e) → counter ≤ top config history (option_map request_waiting pending) → (counter ≤ limit config.cost history / 8) ⊎ (counter ≤ first_decided config history (ask.Out e))
-waiting-bound config history e None counter running is no_other le =
-    let reached : counter ≤ min config.horizon (limit config.cost history / 8) = rw is at le in inl (omega (arith, reached))
-waiting-bound config history e (Some w) counter running is no_other le =
-    let same : counter ≤ top config history (Some (ask.Out e)) = subst (λ (q : Request). counter ≤ top config history (Some q)) no_other le in
-    let reached : counter ≤ min config.horizon (max (limit config.cost history / 8) (first_decided config history (ask.Out e))) = rw is at same in
+-- the counter of an answer is within the limit, or no later than the first at which the request is decided
+answered-bound : (config : Config) (history : List Entry) (e : Event) (counter : ℕ) (running : ℕ × ℕ) → open_session history ≡ Some running → counter ≤ top config history (Some (ask.Out e)) → (counter ≤ limit config.cost history / 8) ⊎ (counter ≤ first_decided config history (ask.Out e))
+answered-bound config history e counter running is le =
+    let reached : counter ≤ min config.horizon (max (limit config.cost history / 8) (first_decided config history (ask.Out e))) = rw is at le in
     by-order (cases_lt (limit config.cost history / 8) counter) reached
   where
     by-order : (limit config.cost history / 8 < counter) ⊎ (counter ≤ limit config.cost history / 8) → counter ≤ min config.horizon (max (limit config.cost history / 8) (first_decided config history (ask.Out e))) → (counter ≤ limit config.cost history / 8) ⊎ (counter ≤ first_decided config history (ask.Out e))
@@ -103,23 +101,36 @@ waiting-bound config history e (Some w) counter running is no_other le =
     by-order (inr le) reached = inl le
 
 -- an output later than the limit doesn't underflow
-pub underflow-has-reason : (s : CoreState) (who : ℕ) (e : Event) (reply : Reply) → IsCore s → IsOpenFor who s.history → NoOtherWaits s.waiting (ask.Out e) → reply_to s.config s.history (ask.Out e) s.counter ≡ Some reply → UnderflowHasReason s.config s.history e reply
-underflow-has-reason s who e reply h running no_other right = λ later is.
-    let ranges = ranges-of s.config h.config in
-    let late : verdict_at s.config s.history e s.counter ≡ Underflow = late-verdict (verdict_at s.config s.history e s.counter) (right ∙ ap (λ (r : Reply). Some r) is) in
-    let reached = limit-at-last s.config.cost s.history (who, running.0) running.1 in
-    by-order (cases_lt s.counter (cycle_of e)) (cases_lt (last_at s.history) s.counter) (waiting-bound s.config s.history e s.waiting s.counter (who, running.0) running.1 no_other h.bounded) later late reached ranges.lanes_least ranges.depth_least
+underflow-has-reason : (config : Config) (before : List Entry) (who at : ℕ) (e : Event) (reply : Reply) → AreInRange config → IsOpenFor who before → at ≤ top config before (Some (ask.Out e)) → reply_to config before (ask.Out e) at ≡ Some reply → UnderflowHasReason config before e reply
+underflow-has-reason config before who at e reply ranges running bounded right = λ later is.
+    let late : verdict_at config before e at ≡ Underflow = late-verdict (verdict_at config before e at) (right ∙ ap (λ (r : Reply). Some r) is) in
+    let reached = limit-at-last config.cost before (who, running.0) running.1 in
+    by-order (cases_lt at (cycle_of e)) (cases_lt (last_at before) at) (answered-bound config before e at (who, running.0) running.1 bounded) later late reached ranges.lanes_least ranges.depth_least
   where
-    by-order : (s.counter < cycle_of e) ⊎ (cycle_of e ≤ s.counter) → (last_at s.history < s.counter) ⊎ (s.counter ≤ last_at s.history) → (s.counter ≤ limit s.config.cost s.history / 8) ⊎ (s.counter ≤ first_decided s.config s.history (ask.Out e)) → limit s.config.cost s.history / 8 < cycle_of e → verdict_at s.config s.history e s.counter ≡ Underflow → 8 * last_at s.history ≤ limit s.config.cost s.history → 1 ≤ s.config.lanes → 1 ≤ s.config.depth → ⊥
-    by-order (inl early) after bound later late reached some deep = no-underflow (lanes_at s.config s.history s.counter) e s.counter early late
+    by-order : (at < cycle_of e) ⊎ (cycle_of e ≤ at) → (last_at before < at) ⊎ (at ≤ last_at before) → (at ≤ limit config.cost before / 8) ⊎ (at ≤ first_decided config before (ask.Out e)) → limit config.cost before / 8 < cycle_of e → verdict_at config before e at ≡ Underflow → 8 * last_at before ≤ limit config.cost before → 1 ≤ config.lanes → 1 ≤ config.depth → ⊥
+    by-order (inl early) after bound later late reached some deep = no-underflow (lanes_at config before at) e at early late
     by-order (inr gone) after (inl within) later late reached some deep = omega (arith, gone, within, later)
-    by-order (inr gone) (inl after) (inr before) later late reached some deep =
-        let early : s.counter < cycle_of e = not-late s.config s.history e s.counter some deep after before in
+    by-order (inr gone) (inl after) (inr first) later late reached some deep =
+        let early : at < cycle_of e = not-late config before e at some deep after first in
         omega (arith, gone, early)
-    by-order (inr gone) (inr back) (inr before) later late reached some deep = omega (arith, gone, back, later, reached)
+    by-order (inr gone) (inr back) (inr first) later late reached some deep = omega (arith, gone, back, later, reached)
 
--- so of an output that was answered
+entry-has-reason : (config : Config) (before : List Entry) (chair : ℕ) (act : Act) → AreInRange config → MayFollow config before chair act → HasReason config before act
+entry-has-reason config before chair (Asked (ask.Out e) reply at) ranges may = (
+  sequence-has-reason config.lanes config.depth (judged_history config before) at e,
+  underflow-has-reason config before chair at e reply ranges may.0 may.3 may.1,
+)
+entry-has-reason config before chair act ranges may = tt
+
+-- so of each output of a lawful history
+pub have-reasons : (config : Config) (before rest : List Entry) → AreInRange config → IsLawfulAfter config before rest → HaveReasons config before rest
+have-reasons config before [] ranges lawful = tt
+have-reasons config before (entry ∷ rest) ranges lawful =
+    (entry-has-reason config before entry.chair entry.act ranges lawful.0, have-reasons config (before ++ entry ∷ []) rest ranges lawful.1)
+
+-- and of one that was answered
 pub answered-with-reason : (s new : CoreState) (who : ℕ) (e : Event) (reply : Reply) (r : Result Ask Request) → IsCore s → IsOpenFor who s.history → IfOk r (λ a. AnswersAsk s who (ask.Out e) a new) → r ≡ Ok (asked.Reply reply) → UnderflowHasReason s.config s.history e reply
 answered-with-reason s new who e reply r h running answers is =
     let told : AnswersAsk s who (ask.Out e) (asked.Reply reply) new = subst (λ (x : Result Ask Request). IfOk x (λ a. AnswersAsk s who (ask.Out e) a new)) is answers in
-    underflow-has-reason s who e reply h running told.0 told.1
+    underflow-has-reason s.config s.history who s.counter e reply (ranges-of s.config h.config) running
+    (asked-bound s.config s.history s.waiting (ask.Out e) s.counter (who, running.0) running.1 told.0 h.bounded) told.1

@@ -17,7 +17,7 @@ abbrev begin : Entry
 begin = record { chair = 0; act = Start (record { source = 0; function = 0; args = []; rid = 0; pos = 0 }) (pos 0) 0 }
 
 abbrev right : List Entry → Request → Option Reply
-right history request = reply_to (record { lanes = 8; depth = 128; cost = 0; horizon = 134217728; edges = [] }) history request 0
+right history request = reply_to (record { lanes = 8; depth = 128; cost = 0; horizon = 134217728; edges = []; holds = []; kept = [] }) history request 0
 
 -- one output, in blocks of these lengths
 abbrev block : ℕ → Recorded

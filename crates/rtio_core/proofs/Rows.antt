@@ -33,7 +33,7 @@ abbrev asked : Request → Reply → ℕ → Entry
 asked request reply at = made 0 (Asked request reply at)
 
 abbrev settings : ℕ → ℕ → ℕ → Config
-settings lanes depth cost = record { lanes = lanes; depth = depth; cost = cost; horizon = 134217728; edges = [] }
+settings lanes depth cost = record { lanes = lanes; depth = depth; cost = cost; horizon = 134217728; edges = []; holds = []; kept = [] }
 
 -- a cost of 800: the third output is asked when the counter stands at its own cycle
 abbrev costly : Config
@@ -91,7 +91,7 @@ shallow_peaks = refl
 
 -- with a horizon of 3 a session that waits longer goes to the horizon
 abbrev near : Config
-near = record { lanes = 8; depth = 128; cost = 0; horizon = 3; edges = [] }
+near = record { lanes = 8; depth = 128; cost = 0; horizon = 3; edges = []; holds = []; kept = [] }
 
 near_top : top near (begin 0 ∷ []) (Some (ask.Wait (pos 1000))) ≡ 3
 near_top = refl
@@ -108,7 +108,7 @@ reset_top = refl
 reset_outputs : outputs_at (settings 8 128 0) reset_history 15625 ≡ out 0 0 125000 ∷ []
 reset_outputs = refl
 
-reset_log : log_at (settings 8 128 0) reset_history 15625 ≡ record { sequence = []; collided = []; cleared = (0, out 0 1 1000) ∷ [] }
+reset_log : log_at (settings 8 128 0) reset_history 15625 ≡ record { sequence = []; collided = []; busy = []; cleared = (0, out 0 1 1000) ∷ [] }
 reset_log = refl
 
 reset_peaks : peaks_at (settings 8 128 0) reset_history ≡ 1 ∷ 0 ∷ 0 ∷ 0 ∷ 0 ∷ 0 ∷ 0 ∷ 0 ∷ []
@@ -127,7 +127,7 @@ nine_outputs : outputs_at (settings 8 128 0) nine_history 125
     ≡ out 0 1 1000 ∷ out 1 1 1000 ∷ out 2 1 1000 ∷ out 3 1 1000 ∷ out 4 1 1000 ∷ out 5 1 1000 ∷ out 6 1 1000 ∷ out 7 1 1000 ∷ []
 nine_outputs = refl
 
-nine_log : log_at (settings 8 128 0) nine_history 125 ≡ record { sequence = (8, out 8 1 1000) ∷ []; collided = []; cleared = [] }
+nine_log : log_at (settings 8 128 0) nine_history 125 ≡ record { sequence = (8, out 8 1 1000) ∷ []; collided = []; busy = []; cleared = [] }
 nine_log = refl
 
 nine_peaks : peaks_at (settings 8 128 0) nine_history ≡ 1 ∷ 1 ∷ 1 ∷ 1 ∷ 1 ∷ 1 ∷ 1 ∷ 1 ∷ []
@@ -140,7 +140,7 @@ replaced_history = begin 0 ∷ done (out 0 0 1000) ∷ done (out 0 1 1000) ∷ [
 replaced_outputs : outputs_at (settings 8 128 0) replaced_history 125 ≡ out 0 1 1000 ∷ []
 replaced_outputs = refl
 
-replaced_log : log_at (settings 8 128 0) replaced_history 125 ≡ record { sequence = []; collided = []; cleared = [] }
+replaced_log : log_at (settings 8 128 0) replaced_history 125 ≡ record { sequence = []; collided = []; busy = []; cleared = [] }
 replaced_log = refl
 
 -- two outputs of one cycle and different stamps collide, and the later is logged from its cycle on
@@ -150,10 +150,10 @@ colliding_history = begin 0 ∷ done (out 0 1 1000) ∷ done (out 0 0 1001) ∷ 
 colliding_outputs : outputs_at (settings 8 128 0) colliding_history 125 ≡ out 0 1 1000 ∷ []
 colliding_outputs = refl
 
-colliding_log : log_at (settings 8 128 0) colliding_history 125 ≡ record { sequence = []; collided = (1, out 0 0 1001) ∷ []; cleared = [] }
+colliding_log : log_at (settings 8 128 0) colliding_history 125 ≡ record { sequence = []; collided = (1, out 0 0 1001) ∷ []; busy = []; cleared = [] }
 colliding_log = refl
 
-colliding_log_before : log_at (settings 8 128 0) colliding_history 124 ≡ record { sequence = []; collided = []; cleared = [] }
+colliding_log_before : log_at (settings 8 128 0) colliding_history 124 ≡ record { sequence = []; collided = []; busy = []; cleared = [] }
 colliding_log_before = refl
 
 -- so do two of one stamp on a channel that doesn't replace
@@ -163,7 +163,7 @@ raw_history = begin 0 ∷ done (out 16 1 1000) ∷ done (out 16 1 1000) ∷ []
 raw_outputs : outputs_at (settings 8 128 0) raw_history 125 ≡ out 16 1 1000 ∷ []
 raw_outputs = refl
 
-raw_log : log_at (settings 8 128 0) raw_history 125 ≡ record { sequence = []; collided = (1, out 16 1 1000) ∷ []; cleared = [] }
+raw_log : log_at (settings 8 128 0) raw_history 125 ≡ record { sequence = []; collided = (1, out 16 1 1000) ∷ []; busy = []; cleared = [] }
 raw_log = refl
 
 -- an output before cycle 0 comes too late at the beginning

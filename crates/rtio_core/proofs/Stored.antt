@@ -1,6 +1,6 @@
 -- What an answered request on recordings does to a core.
-use Rattle.std.proofs.Common.{◌≡◌, ℕ, ◌+◌, ◌-◌, ◌^◌, true, false, Bool, List, [], ◌∷◌, ◌++◌, refl, ap, sym, ◌∙◌, subst}
-use Rattle.std.specs.Prelude.{IsTrue, Some, None, Vec, if◌then◌else◌, max, min}
+use Rattle.std.proofs.Common.{◌≡◌, ℕ, ◌+◌, ◌-◌, ◌^◌, true, List, [], ◌∷◌, ◌++◌, refl, ap, sym, ◌∙◌, subst}
+use Rattle.std.specs.Prelude.{IsTrue, Some, None, Vec, max, min}
 use Rattle.std.specs.declared.alloc.Global.{Global}
 use Rattle.std.proofs.lemmas.List.Sums.{fold-append}
 use Rattle.rtio_types.specs.declared.request.Request.{Request}
@@ -23,20 +23,16 @@ use Rattle.rtio_core.specs.Recordings.{IsServed, is_on_recordings, recordings_re
 use Rattle.rtio_core.proofs.Asked.{asked_entry, quiet_keeps}
 
 -- a save and an erase that are done change what is kept
-kept_after-asked : (history : List Entry) (who at : ℕ) (request : Request) (reply : Reply) → kept_after (history ++ asked_entry who request reply at ∷ []) ≡ kept_by (kept_after history) request reply
-kept_after-asked history who at request reply = fold-append _ _ history (asked_entry who request reply at ∷ [])
-
-either : (b : Bool) (one other : Reply) → (if b then Some one else Some other) ≡ Some (if b then one else other)
-either true one other = refl
-either false one other = refl
+kept_after-asked : (config : Config) (history : List Entry) (who at : ℕ) (request : Request) (reply : Reply) → kept_after config (history ++ asked_entry who request reply at ∷ []) ≡ kept_by (kept_after config history) request reply
+kept_after-asked config history who at request reply = fold-append _ _ history (asked_entry who request reply at ∷ [])
 
 -- they are answered by what is kept
-reply_to-recordings : (config : Config) (history : List Entry) (request : Request) (counter : ℕ) → IsTrue (is_on_recordings request) → reply_to config history request counter ≡ Some (recordings_reply (kept_after history) request)
-reply_to-recordings config history (ask.Save name recording) counter is = either _ _ _
+reply_to-recordings : (config : Config) (history : List Entry) (request : Request) (counter : ℕ) → IsTrue (is_on_recordings request) → reply_to config history request counter ≡ Some (recordings_reply (kept_after config history) request)
+reply_to-recordings config history (ask.Save name recording) counter is = refl
 reply_to-recordings config history (ask.Fetch name) counter is = refl
 reply_to-recordings config history (ask.FetchHandle handle) counter is = refl
 reply_to-recordings config history (ask.Handle name) counter is = refl
-reply_to-recordings config history (ask.Erase name) counter is = either _ _ _
+reply_to-recordings config history (ask.Erase name) counter is = refl
 reply_to-recordings config history other counter is = absurd (cc)
 
 -- and are no steps of lanes and inputs
@@ -68,9 +64,9 @@ right-served a s request replies store see h kind served =
 pub served_keeps : (a : Inside) (s : CoreState) (entries : Vec Entry Global) (store : KeptState) (who : ℕ) (request : Request) (replies : Reply × Reply) (left : ℕ) → core_state a ≡ s → IsCoreInside a → IsOpenFor who s.history → NoOtherWaits s.waiting request → IsTrue (is_well_formed request) → IsTrue (is_on_recordings request) → IsServed a.store request replies store → entries.items ≡ a.entries.items ++ asked_entry who request replies.1 a.count ∷ [] → left ≡ min (max a.limit (reading a.count) + a.config.cost) (2 ^ 64 - 1) → IsCoreInside (record a { entries = entries; pending = None; store = store; limit = left })
 served_keeps a s entries store who request replies left see h running no_other formed kind served is raised =
     let same : replies.0 ≡ replies.1 = sym served.same in
-    let left_by : kept_by a.store request replies.0 ≡ kept_after (a.entries.items ++ asked_entry who request replies.1 a.count ∷ []) =
-    ap (λ (kept : KeptState). kept_by kept request replies.0) h.store ∙ ap (kept_by (kept_after a.entries.items) request) same
-    ∙ sym (kept_after-asked a.entries.items who a.count request replies.1) in
+    let left_by : kept_by a.store request replies.0 ≡ kept_after a.config (a.entries.items ++ asked_entry who request replies.1 a.count ∷ []) =
+    ap (λ (kept : KeptState). kept_by kept request replies.0) h.store ∙ ap (kept_by (kept_after a.config a.entries.items) request) same
+    ∙ sym (kept_after-asked a.config a.entries.items who a.count request replies.1) in
     quiet_keeps a s entries store who request replies.1 left see h
     (record {
       running = running;

@@ -91,12 +91,12 @@ top-rises config history None counter running ok lawful is far last below =
 top-rises config history (Some w) counter running ok lawful is far last below = top-waits config history (request_waiting w) counter running (is_decided config history (request_waiting w) counter) ok lawful is far last below refl
 
 -- the kept limit tells as much as the whole one, within the horizon
-pub limit-tells : (left whole counter : ℕ) → left ≡ min whole (2 ^ 64 - 1) → counter ≤ 134217728 → left / 8 ≤ counter → whole / 8 ≤ counter
+pub limit-tells : (left whole counter : ℕ) → left ≡ min whole (2 ^ 64 - 1) → counter ≤ 576460752303423488 → left / 8 ≤ counter → whole / 8 ≤ counter
 limit-tells left whole counter is few far = omega (arith, is, few, far)
 
 pub waits-rise : (a : Inside) (s : CoreState) (running : ℕ × ℕ) (b : Bool) → core_state a ≡ s → IsCoreInside a → a.session ≡ Some running → a.limit / 8 ≤ a.count → s.counter < s.config.horizon → b ≡ has_to_wait s → (IsTrue b → s.counter < core_top s) × (s.counter < core_top s → IsTrue b)
 waits-rise a s running b see h started far below is =
-    let few : a.count ≤ 134217728 = let within : a.count ≤ a.config.horizon = omega (arith, h.core.bounded) in omega (arith, within, horizon-most a.config h.core.config) in
+    let few : a.count ≤ 576460752303423488 = let within : a.count ≤ a.config.horizon = omega (arith, h.core.bounded) in omega (arith, within, horizon-most a.config h.core.config) in
     let here : a.count < a.config.horizon = subst (λ (x : CoreState). x.counter < x.config.horizon) (sym see) below in
     let rises = top-rises a.config a.entries.items a.pending a.count running h.inputs.ok h.core.lawful (sym h.session ∙ started) (limit-tells a.limit (limit a.config.cost a.entries.items) a.count h.limit few far) h.core.reached here in
     subst (λ (c : Bool). (IsTrue c → s.counter < core_top s) × (s.counter < core_top s → IsTrue c)) (sym is)

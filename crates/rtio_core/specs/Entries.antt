@@ -1,5 +1,6 @@
 -- The history of a core.
 use Rattle.std.specs.Prelude.{ℕ, ◌+◌, Bool, ◌&&◌, List, filter_map, fold, max, nat_le, bytes_eq, if◌then◌else◌, ℤ, pos, Option, Some, None}
+use Rattle.std.specs.List.{list_all}
 use Rattle.rtio_types.specs.declared.request.Reply.{Reply}
 use Rattle.rtio_types.specs.declared.request.Reply.TheVariants as answer
 use Rattle.rtio_types.specs.declared.request.Request.{Request}
@@ -9,21 +10,26 @@ use Rattle.rtio_types.specs.Time.{reading}
 use Rattle.sed_lanes.specs.Judged.{LaneStep, Submit, Clear, Judged, judged}
 use Rattle.rtio_input.specs.Script.{are_edges_ok}
 use Rattle.rtio_input.specs.Past.{InputStep, Read, Overflowed, Reset}
-use Rattle.dma_store.specs.Kept.{KeptState, no_recordings, saved, erased}
+use Rattle.dma_store.specs.Kept.{KeptState, recording_named, saved, erased}
+use Rattle.rtio_core.specs.Handed.{are_kept_ok, kept_of}
 use Rattle.rtio_core.specs.declared.data.Config.{Config}
 use Rattle.rtio_core.specs.declared.data.Act.{Act}
 use Rattle.rtio_core.specs.declared.data.Act.TheVariants.{Start, Asked, End}
 use Rattle.rtio_core.specs.declared.data.Entry.{Entry}
 
+-- each hold is in its range: up to 1,000,000 cycles
+abbrev pub are_holds_ok : List ℕ → Bool
+are_holds_ok holds = list_all (λ hold. nat_le hold 1000000) holds
+
 -- the numbers of the settings are in their ranges: 1 to 32 lanes of 1 to 1,024 events, a cost of up to 1,000,000 mu, and a
--- horizon of 1 to 134,217,728 cycles; the edges can be a script
+-- horizon of 1 to 576,460,752,303,423,488 cycles; the edges can be a script, and the recordings can be kept
 abbrev pub is_config_ok : Config → Bool
 is_config_ok config =
     nat_le 1 config.lanes && nat_le config.lanes 32
     && nat_le 1 config.depth && nat_le config.depth 1024
     && nat_le config.cost 1000000
-    && nat_le 1 config.horizon && nat_le config.horizon 134217728
-    && are_edges_ok config.edges
+    && nat_le 1 config.horizon && nat_le config.horizon 576460752303423488
+    && are_edges_ok config.edges && are_holds_ok config.holds && are_kept_ok config.kept
 
 -- the counter at which the entry was made
 abbrev pub act_at : Act → ℕ
@@ -96,17 +102,18 @@ kept_by kept (ask.Save name recording) answer.Done = saved kept name recording
 kept_by kept (ask.Erase name) answer.Done = erased kept name
 kept_by kept request reply = kept
 
--- the recordings that the saves and erases of the history leave
-abbrev pub kept_after : List Entry → KeptState
-kept_after history = fold (λ kept (entry : Entry). after kept entry.act) no_recordings history
+-- the recordings that were handed in, as the saves and erases of the history leave them
+abbrev pub kept_after : Config → List Entry → KeptState
+kept_after config history = fold (λ kept (entry : Entry). after kept entry.act) (kept_of config.kept) history
   where
     after : KeptState → Act → KeptState
     after kept (Asked request reply at) = kept_by kept request reply
     after kept act = kept
 
--- the recording of the last save of a name, if the name wasn't erased since
-abbrev pub last_saved : List ℕ → List Entry → Option Recorded
-last_saved name history = fold (λ found (entry : Entry). after found entry.act) None history
+-- the recording of the last save of a name, or the one that was handed in, if the name wasn't erased since
+abbrev pub last_saved : Config → List ℕ → List Entry → Option Recorded
+last_saved config name history =
+    fold (λ found (entry : Entry). after found entry.act) (recording_named (kept_of config.kept) name) history
   where
     after : Option Recorded → Act → Option Recorded
     after found (Asked (ask.Save other recording) answer.Done at) = if bytes_eq name other then Some recording else found

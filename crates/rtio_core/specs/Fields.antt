@@ -22,9 +22,9 @@ pub record IsCoreInside (a : Inside) : Type 0 where
   pub core : IsCore (core_state a)
   pub pending : open_session a.entries.items ≡ None → a.pending ≡ None
   pub formed : IsTrue (is_formed a.pending)
-  pub played : IsPlayed a.outputs a.config.lanes a.config.depth (lane_steps a.entries.items) a.count
+  pub played : IsPlayed a.outputs a.config.holds a.config.lanes a.config.depth (lane_steps a.entries.items) a.count
   pub inputs : InputsStandFor a.inputs a.config.edges (outputs_at a.config a.entries.items a.count) (input_steps a.entries.items) a.count
-  pub store : a.store ≡ kept_after a.entries.items
+  pub store : a.store ≡ kept_after a.config a.entries.items
   pub session : a.session ≡ open_session a.entries.items
   pub cursor : a.cursor ≡ last_cursor a.entries.items
   pub limit : a.limit ≡ min (limit a.config.cost a.entries.items) (2 ^ 64 - 1)

@@ -1,5 +1,7 @@
+pub mod Handed
 pub mod Entries
 pub mod Answers
+pub mod Recordings
 pub mod Reply
 pub mod Top
 pub mod Lawful
@@ -11,4 +13,3 @@ pub mod LogOrder
 pub mod Played
 pub mod Fields
 pub mod Errors
-pub mod Recordings

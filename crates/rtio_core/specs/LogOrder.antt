@@ -5,7 +5,8 @@ use Rattle.rtio_log.specs.declared.LogLine.{LogLine}
 use Rattle.rtio_log.specs.declared.LogKind.TheVariants as kind
 use Rattle.sed_lanes.specs.Verdict.{Sequence}
 use Rattle.sed_lanes.specs.Judged.{Judged, Submitted, Cleared}
-use Rattle.output_merge.specs.Groups.{collisions}
+use Rattle.output_merge.specs.Busy.{busy}
+use Rattle.output_merge.specs.Groups.{collisions, keepers}
 use Rattle.output_merge.specs.Live.{live}
 use Rattle.rtio_core.specs.Lines.{lines_for}
 
@@ -27,12 +28,14 @@ lines_of_steps counter before [] = []
 lines_of_steps counter before (j ∷ rest) =
     (if judged_at j == counter then lines_of_step before j else []) ++ lines_of_steps counter (before ++ j ∷ []) rest
 
--- the lines of the collisions of one cycle, by channel and number
-abbrev pub lines_of_cycle : List Judged → ℕ → List LogLine
-lines_of_cycle judged cycle = lines_for kind.Collision (filter (λ p. cycle_of p.1 == cycle) (collisions (live judged)))
+-- the lines of one cycle: of its collisions, and then of its busy keepers, each by channel and number
+abbrev pub lines_of_cycle : (holds : List ℕ) → List Judged → ℕ → List LogLine
+lines_of_cycle holds judged cycle =
+    lines_for kind.Collision (filter (λ p. cycle_of p.1 == cycle) (collisions (live judged)))
+    ++ lines_for kind.Busy (filter (λ p. cycle_of p.1 == cycle) (busy holds (keepers (live judged))))
 
--- all lines up to a counter: of each cycle first those of its collisions, which the tick to that counter adds, and then
--- those of what was asked at that counter. No event is accepted for cycle 0
-abbrev pub log_lines : List Judged → ℕ → List LogLine
-log_lines judged zero = lines_of_steps 0 [] judged
-log_lines judged (suc c) = log_lines judged c ++ lines_of_cycle judged (suc c) ++ lines_of_steps (suc c) [] judged
+-- all lines up to a counter: of each cycle first those that the tick to that counter adds, and then those of what was asked
+-- at that counter. No event is accepted for cycle 0
+abbrev pub log_lines : (holds : List ℕ) → List Judged → ℕ → List LogLine
+log_lines holds judged zero = lines_of_steps 0 [] judged
+log_lines holds judged (suc c) = log_lines holds judged c ++ lines_of_cycle holds judged (suc c) ++ lines_of_steps (suc c) [] judged

@@ -5,21 +5,23 @@ use Rattle.sed_lanes.specs.Counters.{NeverFall}
 use Rattle.sed_lanes.specs.Judged.{LaneStep, judged, lanes_after, next_number}
 use Rattle.sed_lanes.specs.Peaks.{peaks_of}
 use Rattle.output_merge.specs.Live.{live, greatest_cycle}
-use Rattle.output_merge.specs.Outputs.{logged, outputs, up_to}
+use Rattle.output_merge.specs.Outputs.{logged, outputs, put_out_by, up_to}
+use Rattle.output_merge.specs.Sieve.{holds_after}
 use Rattle.rtio_core.specs.declared.outputs.Outputs.{Outputs}
 use Rattle.rtio_core.specs.LogOrder.{log_lines}
 use Rattle.rtio_core.specs.Told.{TellsLog}
 
 -- each part is what the steps make of it at the counter, and there is room for what a tick adds
-pub record IsPlayed (o : Outputs) (lanes depth : ℕ) (steps : List LaneStep) (counter : ℕ) : Type 0 where
+pub record IsPlayed (o : Outputs) (holds : List ℕ) (lanes depth : ℕ) (steps : List LaneStep) (counter : ℕ) : Type 0 where
   pub lanes_least : 1 ≤ lanes
   pub lanes_most : lanes ≤ 32
   pub depth_least : 1 ≤ depth
   pub in_time : NeverFall 0 steps counter
   pub standing : o.lanes ≡ lanes_after lanes depth (judged lanes depth steps) counter
-  pub put_out : o.put_out.items ≡ outputs (judged lanes depth steps) counter
-  pub log : TellsLog (logged (judged lanes depth steps) counter) o.log.lines
-  pub lines : o.log.lines ≡ log_lines (judged lanes depth steps) counter
+  pub put_out : o.put_out.items ≡ outputs holds (judged lanes depth steps) counter
+  pub holds_are : o.holds ≡ holds_after holds (put_out_by holds (judged lanes depth steps) counter)
+  pub log : TellsLog (logged holds (judged lanes depth steps) counter) o.log.lines
+  pub lines : o.log.lines ≡ log_lines holds (judged lanes depth steps) counter
   pub peaks : o.peaks.items ≡ peaks_of lanes (judged lanes depth steps)
   pub number : o.number ≡ next_number (judged lanes depth steps)
   pub greatest : o.greatest ≡ greatest_cycle (live (judged lanes depth steps))
@@ -30,10 +32,11 @@ pub record IsPlayed (o : Outputs) (lanes depth : ℕ) (steps : List LaneStep) (c
   pub heads : o.heads ≡ record { items = []; room = 32 }
   pub kept : o.kept ≡ record { items = []; room = 32 }
   pub collided : o.collided ≡ record { items = []; room = 32 }
+  pub busy : o.busy ≡ record { items = []; room = 32 }
 
 -- so it is for some steps
 abbrev pub IsPlayedTo : Outputs → ℕ → Type 0
-IsPlayedTo o counter = (lanes : ℕ) × (depth : ℕ) × (steps : List LaneStep) × IsPlayed o lanes depth steps counter
+IsPlayedTo o counter = (holds : List ℕ) × (lanes : ℕ) × (depth : ℕ) × (steps : List LaneStep) × IsPlayed o holds lanes depth steps counter
 
 -- there is room for one event more, and for its line in the log
 pub record HasRoom (o : Outputs) : Type 0 where

@@ -1,13 +1,13 @@
 -- What a request on recordings is answered, and what it leaves.
-use Rattle.std.specs.Prelude.{◌≡◌, Bool, true, false, if◌then◌else◌, IsTrue}
+use Rattle.std.specs.Prelude.{◌≡◌, Bool, true, false, if◌then◌else◌, IsTrue, ℤ, Option, Some, None}
 use Rattle.rtio_types.specs.declared.request.Request.{Request}
 use Rattle.rtio_types.specs.declared.request.Request.TheVariants as ask
 use Rattle.rtio_types.specs.declared.request.Reply.{Reply}
 use Rattle.rtio_types.specs.declared.request.Reply.TheVariants as answer
+use Rattle.rtio_types.specs.Recordings.{Recorded}
 use Rattle.rtio_types.specs.Requests.{fits_request}
 use Rattle.dma_store.specs.Kept.{KeptState, handle_of, is_full_for, is_kept, recording_handled, recording_named}
 use Rattle.rtio_core.specs.Entries.{kept_by}
-use Rattle.rtio_core.specs.Reply.{handle_or, trace_or}
 
 abbrev pub is_on_recordings : Request → Bool
 is_on_recordings (ask.Save name recording) = true
@@ -16,6 +16,16 @@ is_on_recordings (ask.FetchHandle handle) = true
 is_on_recordings (ask.Handle name) = true
 is_on_recordings (ask.Erase name) = true
 is_on_recordings other = false
+
+-- the recording, and where there is none, another reply
+abbrev pub trace_or : Reply → Option Recorded → Reply
+trace_or otherwise (Some recording) = answer.Trace recording
+trace_or otherwise None = otherwise
+
+-- the handle, and where there is none, another reply
+abbrev pub handle_or : Reply → Option ℤ → Reply
+handle_or otherwise (Some handle) = answer.Handle handle
+handle_or otherwise None = otherwise
 
 -- the right reply, by what is kept
 abbrev pub recordings_reply : KeptState → Request → Reply

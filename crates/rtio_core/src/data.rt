@@ -1,14 +1,16 @@
 // The plain data of a core.
 
 ghost use Rattle.std.specs.Prelude.{◌≡◌, IfOk};
-ghost use Rattle.rtio_core.specs.Entries.{is_config_ok};
+ghost use Rattle.rtio_core.specs.Entries.{are_holds_ok, is_config_ok};
 
+use crate::NamedList;
+use crate::named::kept_ok;
 use rtio_input::edges_ok;
 use rtio_types::{EdgeList, IntList, Outcome, Reply, Request, Waiting};
 use std::alloc::{AllocError, Global};
 
-/// The settings of a core. The numbers of lanes and of events in one are those of an ARTIQ gateware; cost and horizon
-/// are this project's own.
+/// The settings of a core. The numbers of lanes and of events in one are those of an ARTIQ gateware; cost, horizon and
+/// holds are this project's own.
 #[derive(Debug, Drop)]
 pub struct Config {
     /// How many lanes there are, 1 to 32.
@@ -17,10 +19,14 @@ pub struct Config {
     pub depth: u32,
     /// By how much each answered request raises the limit, 0 to 1,000,000 mu.
     pub cost: u64,
-    /// The last cycle that the counter reaches, 1 to 134,217,728.
+    /// The last cycle that the counter reaches, 1 to 576,460,752,303,423,488.
     pub horizon: u64,
     /// The edges that the inputs get.
     pub edges: EdgeList,
+    /// How many cycles each channel takes to execute an event, by channel, each 0 to 1,000,000.
+    pub holds: [u32; 32],
+    /// The recordings that the core begins with, at most 64 of different names.
+    pub kept: NamedList,
 }
 
 /// What a session runs, and for which step of which run.
@@ -128,6 +134,8 @@ impl Config {
             cost: self.cost,
             horizon: self.horizon,
             edges: self.edges.copy(alloc)?,
+            holds: self.holds,
+            kept: self.kept.copy(alloc)?,
         })
     }
 }
@@ -138,9 +146,11 @@ const MOST_DEPTH: u32 = 1_024;
 
 const MOST_COST: u64 = 1_000_000;
 
-const MOST_HORIZON: u64 = 134_217_728;
+const MOST_HORIZON: u64 = 1 << 59;
 
-/// Whether the numbers of the settings are in their ranges, and the edges can be a script.
+const MOST_HOLD: u32 = 1_000_000;
+
+/// Whether the numbers of the settings are in their ranges, the edges can be a script, and the recordings can be kept.
 pub fn config_ok(config: &Config) -> bool
     ensures { result ≡ is_config_ok config.now }
 {
@@ -149,4 +159,13 @@ pub fn config_ok(config: &Config) -> bool
         && config.cost <= MOST_COST
         && (1..=MOST_HORIZON).contains(&config.horizon)
         && edges_ok(config.edges.items())
+        && holds_ok(&config.holds)
+        && kept_ok(config.kept.items())
+}
+
+// Whether each hold is in its range.
+fn holds_ok(holds: &[u32; 32]) -> bool
+    ensures { result ≡ are_holds_ok holds.now }
+{
+    holds.iter().all(|hold| *hold <= MOST_HOLD)
 }

@@ -7,7 +7,8 @@ mod ticking;
 
 ghost use Rattle.std.specs.Prelude.{◌≡◌, ◌<◌, ℕ, IfOk, IfSome, OnOk, OnErr, IsTrue, Some, None, Ok, Err};
 ghost use Rattle.rtio_types.specs.Requests.{is_well_formed, request_waiting};
-ghost use Rattle.rtio_core.specs.Entries.{is_config_ok, last_cursor, open_session};
+ghost use Rattle.rtio_core.specs.Entries.{is_config_ok, kept_after, last_cursor, open_session};
+ghost use Rattle.rtio_core.specs.Handed.{are_kept_ok, kept_of};
 ghost use Rattle.rtio_core.specs.Reply.{outputs_at};
 ghost use Rattle.rtio_core.specs.Lawful.{IsOpenFor};
 ghost use Rattle.rtio_core.specs.Told.{TellsLog, log_at, log_lines_at, peaks_at};
@@ -15,7 +16,7 @@ ghost use Rattle.rtio_core.specs.Core.{CoreState, IsCore, new_core};
 ghost use Rattle.rtio_core.specs.Calls.{started, ended, MayEnd};
 
 use crate::outputs::Outputs;
-use crate::{Act, Config, Entry, StartEnd, StartOf};
+use crate::{Act, Config, Entry, Named, StartEnd, StartOf};
 use dma_store::Store;
 use rtio_input::Inputs;
 use rtio_log::LogLine;
@@ -53,13 +54,14 @@ impl Model for Core {
 }
 
 impl Core {
-    /// A core at counter 0, with an empty history and no recordings; the edges of its settings are still to come.
+    /// A core at counter 0, with an empty history and the recordings of its settings, whose edges are still to come.
     pub fn new(alloc: Global, config: Config) -> Result<Core, AllocError>
         requires { IsTrue (is_config_ok config) }
         ensures { IfOk result (λ core. core ≡ new_core config) }
     {
-        let outputs = Outputs::new(alloc, config.lanes, config.depth)?;
+        let outputs = Outputs::new(alloc, &config.holds, config.lanes, config.depth)?;
         let inputs = Inputs::new(alloc, config.edges.items())?;
+        let store = handed_in(alloc, config.kept.items())?;
         Ok(Core {
             config,
             entries: Vec::new(alloc),
@@ -67,7 +69,7 @@ impl Core {
             pending: None,
             outputs,
             inputs,
-            store: Store::new(alloc),
+            store,
             session: None,
             cursor: 0,
             limit: 0,
@@ -149,9 +151,9 @@ impl Core {
         &self.outputs.put_out
     }
 
-    /// Which events were out of sequence, collided or were cleared so far, in the order of adding: a tick adds the
-    /// collisions of its cycle, by channel and number; one out of sequence and those that a reset clears are added when
-    /// that is asked. Overridden events and those that came too late aren't among them.
+    /// Which events were out of sequence, collided, were busy or were cleared so far, in the order of adding: a tick adds
+    /// the collisions of its cycle, and then the busy ones, each by channel and number; one out of sequence and those that a
+    /// reset clears are added when that is asked. Overridden events and those that came too late aren't among them.
     pub fn log(&self) -> &[LogLine]
         ensures kinds { TellsLog (log_at self.now.config self.now.history self.now.counter) result.now }
         ensures lines { result.now ≡ log_lines_at self.now.config self.now.history self.now.counter }
@@ -190,4 +192,23 @@ impl Core {
     {
         &self.outputs.peaks
     }
+
+    /// The recordings that are kept.
+    pub fn store(&self) -> &Store
+        ensures { result.now ≡ kept_after self.now.config self.now.history }
+    {
+        &self.store
+    }
+}
+
+// The recordings that a core begins with.
+fn handed_in(alloc: Global, kept: &[Named]) -> Result<Store, AllocError>
+    requires { IsTrue (are_kept_ok kept.now) }
+    ensures { IfOk result (λ store. store ≡ kept_of kept.now) }
+{
+    let mut store = Store::new(alloc);
+    for named in kept {
+        store.hand_in(alloc, &named.name, &named.recording)?;
+    }
+    Ok(store)
 }

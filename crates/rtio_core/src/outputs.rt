@@ -7,7 +7,7 @@ ghost use Rattle.sed_lanes.specs.Verdict.{Undecided, verdict};
 ghost use Rattle.rtio_core.specs.Played.{IsPlayed, IsPlayedTo, HasRoom};
 ghost use Rattle.rtio_core.specs.Lines.{lines_for};
 
-use output_merge::merge;
+use output_merge::{Holds, merge};
 use rtio_log::{Log, LogKind, LogLine};
 use rtio_types::{Event, cycle_of};
 use sed_lanes::{Heads, Lanes, Place};
@@ -17,6 +17,7 @@ use std::alloc::{AllocError, Global};
 #[derive(Debug, Drop)]
 pub struct Outputs {
     pub lanes: Lanes,
+    pub holds: Holds,
     pub log: Log,
     pub put_out: Vec<Event>,
     pub peaks: Vec<u32>,
@@ -26,10 +27,11 @@ pub struct Outputs {
     pub greatest: u64,
     /// The greatest cycle of those among them that aren't held any more.
     pub reached: u64,
-    /// What a tick drains, and what the merge makes of it.
+    /// What a tick drains, and what the merge and the sieve make of it.
     pub heads: Heads,
     pub kept: Heads,
     pub collided: Heads,
+    pub busy: Heads,
 }
 
 // No drain takes more: one event of each lane.
@@ -70,17 +72,24 @@ fn log_all(from: &mut Heads, kind: LogKind, log: &mut Log)
 
 impl Outputs {
     /// No output yet.
-    pub fn new(alloc: Global, lanes: u32, depth: u32) -> Result<Outputs, AllocError>
+    pub fn new(
+        alloc: Global,
+        holds: &[u32; 32],
+        lanes: u32,
+        depth: u32,
+    ) -> Result<Outputs, AllocError>
         requires lanes { (1 ≤ lanes) × (lanes ≤ 32) }
         requires depth { (1 ≤ depth) × (depth ≤ 1024) }
-        ensures { IfOk result (λ outputs. IsPlayed outputs lanes depth [] 0) }
+        ensures { IfOk result (λ outputs. IsPlayed outputs holds.now lanes depth [] 0) }
     {
         let heads = Heads::with_room(alloc, MOST_HEADS)?;
         let kept = Heads::with_room(alloc, MOST_HEADS)?;
         let collided = Heads::with_room(alloc, MOST_HEADS)?;
+        let busy = Heads::with_room(alloc, MOST_HEADS)?;
         let peaks = vec![in alloc; 0u32; lanes as usize]?;
         Ok(Outputs {
             lanes: Lanes::new(alloc, lanes, depth)?,
+            holds: Holds::new(holds),
             log: Log::new(alloc),
             put_out: Vec::new(alloc),
             peaks,
@@ -90,27 +99,31 @@ impl Outputs {
             heads,
             kept,
             collided,
+            busy,
         })
     }
 
-    /// Takes room for one event more, and for its line in the log.
+    /// Takes room for one event more, and for its line in the log where the room that is there is that of other events.
     pub fn take_room(&mut self) -> Result<(), AllocError>
-        ensures played { (lanes depth counter : ℕ) (steps : List LaneStep) → IsPlayed self.old lanes depth steps counter → IsPlayed self.new lanes depth steps counter }
+        ensures played { (holds : List ℕ) (lanes depth counter : ℕ) (steps : List LaneStep) → IsPlayed self.old holds lanes depth steps counter → IsPlayed self.new holds lanes depth steps counter }
         ensures lanes { self.new.lanes ≡ self.old.lanes }
         ensures number { self.new.number ≡ self.old.number }
         ensures room { (counter : ℕ) → IsPlayedTo self.old counter → OnOk result (HasRoom self.new) }
     {
-        let events = self.lanes.held() as usize + 1;
-        self.put_out.reserve(events)?;
-        self.log.reserve(1)
+        let events = u64::from(self.lanes.held()) + 1;
+        self.put_out.reserve(events as usize)?;
+        if self.log.room() < events {
+            self.log.reserve(1)?;
+        }
+        Ok(())
     }
 
     /// Counts an event that came too late.
     pub fn miss(&mut self, counter: u64, event: Event)
         requires late { cycle_of event ≤ counter }
         requires number { self.old.number + 1 < 2 ^ 64 }
-        ensures { (lanes depth : ℕ) (steps : List LaneStep) → IsPlayed self.old lanes depth steps counter
-            → IsPlayed self.new lanes depth (steps ++ Submit counter event ∷ []) counter }
+        ensures { (holds : List ℕ) (lanes depth : ℕ) (steps : List LaneStep) → IsPlayed self.old holds lanes depth steps counter
+            → IsPlayed self.new holds lanes depth (steps ++ Submit counter event ∷ []) counter }
     {
         self.number += 1;
     }
@@ -122,8 +135,8 @@ impl Outputs {
         requires decided { verdict self.old.lanes event counter ≢ Undecided }
         requires room { HasRoom self.old }
         requires number { self.old.number + 1 < 2 ^ 64 }
-        ensures { (lanes depth : ℕ) (steps : List LaneStep) → IsPlayed self.old lanes depth steps counter
-            → IsPlayed self.new lanes depth (steps ++ Submit counter event ∷ []) counter }
+        ensures { (holds : List ℕ) (lanes depth : ℕ) (steps : List LaneStep) → IsPlayed self.old holds lanes depth steps counter
+            → IsPlayed self.new holds lanes depth (steps ++ Submit counter event ∷ []) counter }
     {
         let number = self.number;
         self.number = number + 1;
@@ -146,8 +159,8 @@ impl Outputs {
     /// Clears what isn't put out yet, and logs it.
     pub fn clear(&mut self, alloc: Global, counter: u64) -> Result<(), AllocError>
         requires { IsPlayedTo self.old counter }
-        ensures ok { OnOk result ((lanes depth : ℕ) (steps : List LaneStep) → IsPlayed self.old lanes depth steps counter
-            → IsPlayed self.new lanes depth (steps ++ Clear counter ∷ []) counter) }
+        ensures ok { OnOk result ((holds : List ℕ) (lanes depth : ℕ) (steps : List LaneStep) → IsPlayed self.old holds lanes depth steps counter
+            → IsPlayed self.new holds lanes depth (steps ++ Clear counter ∷ []) counter) }
         ensures err { OnErr result (self.new ≡ self.old) }
     {
         let mut cleared = Heads::with_room(alloc, self.lanes.held())?;
@@ -173,12 +186,12 @@ impl Outputs {
         &self.put_out[count..]
     }
 
-    /// Puts out the events of the next cycle, and logs those that collide.
+    /// Puts out the events of the next cycle, and logs those that collide and those that find their channels busy.
     pub fn advance(&mut self, counter: u64)
         requires played { IsPlayedTo self.old counter }
         requires counter { counter + 1 < 2 ^ 64 }
-        ensures { (lanes depth : ℕ) (steps : List LaneStep) → IsPlayed self.old lanes depth steps counter
-            → IsPlayed self.new lanes depth steps (counter + 1) }
+        ensures { (holds : List ℕ) (lanes depth : ℕ) (steps : List LaneStep) → IsPlayed self.old holds lanes depth steps counter
+            → IsPlayed self.new holds lanes depth steps (counter + 1) }
     {
         let cycle = counter + 1;
         self.lanes.drain(cycle, &mut self.heads);
@@ -187,7 +200,9 @@ impl Outputs {
         }
         self.reached = cycle;
         merge(&mut self.heads, &mut self.kept, &mut self.collided);
+        self.holds.sieve(cycle, &mut self.kept, &mut self.busy);
         put_out(&mut self.kept, &mut self.put_out);
         log_all(&mut self.collided, LogKind::Collision, &mut self.log);
+        log_all(&mut self.busy, LogKind::Busy, &mut self.log);
     }
 }

@@ -27,7 +27,7 @@ pub fn is_waiting(waiting: Waiting, request: &Request) -> bool
 
 /// What the counter reads, in mu, as replies have it.
 pub fn reads(counter: u64) -> i64
-    requires { counter ≤ 2 ^ 28 }
+    requires { counter ≤ 2 ^ 59 }
     ensures { result ≡ pos (reading counter) }
 {
     reading(counter) as i64
@@ -35,7 +35,7 @@ pub fn reads(counter: u64) -> i64
 
 /// The reply to a request that is no output, once it is decided.
 pub fn plain_reply(request: &Request, counter: u64) -> Reply
-    requires { counter ≤ 2 ^ 28 }
+    requires { counter ≤ 2 ^ 59 }
     ensures { result ≡ plain_reply request.now counter }
 {
     match request {
@@ -59,7 +59,7 @@ pub fn same_edge_reply(reply: &Reply) -> Reply
 
 /// The limit (mu) after a request that was answered at this counter; it stands still at the end of its type.
 pub fn raised(limit: u64, at: u64, cost: u64) -> u64
-    requires { at ≤ 2 ^ 28 }
+    requires { at ≤ 2 ^ 59 }
     ensures { result ≡ min (max limit (reading at) + cost) (2 ^ 64 - 1) }
 {
     limit.max(reading(at)).saturating_add(cost)

@@ -3,7 +3,7 @@
 
 use core_image::{Verified, decode, verify};
 use core_session::{SessionEnd, drain_core, run_code};
-use rtio_core::{Act, Config, Core, Entry, StartOf, config_ok};
+use rtio_core::{Act, Config, Core, Entry, NamedList, StartOf, config_ok};
 use rtio_types::{EdgeList, IntList};
 use run_schedule::Schedule;
 use std::alloc::{AllocError, Global};
@@ -87,6 +87,8 @@ fn core_of(
         cost,
         horizon,
         edges,
+        holds: [0; 32],
+        kept: NamedList::of(Vec::new(alloc)),
     };
     assert!(rt; config_ok(&config));
     Ok(Core::new(alloc, config)?)

@@ -11,7 +11,7 @@ ghost use Rattle.rtio_core.specs.Answers.{is_plain, plain_reply};
 ghost use Rattle.rtio_core.specs.Reply.{reply_to, verdict_at};
 ghost use Rattle.rtio_core.specs.Lawful.{IsOpenFor};
 ghost use Rattle.rtio_core.specs.Calls.{AnswersAsk, NoOtherWaits};
-ghost use Rattle.rtio_core.specs.Errors.{SequenceHasReason, UnderflowHasReason};
+ghost use Rattle.rtio_core.specs.Errors.{UnderflowHasReason};
 
 use super::Core;
 use crate::replies::{is_waiting, plain_reply, raised, reads};
@@ -29,9 +29,7 @@ impl Core {
         ensures answer { IfOk result (λ answer. AnswersAsk self.old who request answer self.new) }
         ensures back { IfErr result (λ back. back ≡ request) }
         ensures err { OnErr result (self.new ≡ self.old) }
-        // An output of a later cycle than all that were accepted since the last reset isn't out of sequence, and one of a
-        // later cycle than the limit's doesn't underflow.
-        ensures sequence { (e : Event) → request ≡ kind.Out e → SequenceHasReason self.old.config self.old.history e self.old.counter }
+        // An output of a later cycle than the limit's doesn't underflow.
         ensures underflow { (e : Event) (reply : Reply) → request ≡ kind.Out e → result ≡ Ok (Ask.Reply reply)
             → UnderflowHasReason self.old.config self.old.history e reply }
         // Want of memory comes only where there would have been a reply.

@@ -5,7 +5,6 @@ ghost use Rattle.rtio_types.specs.Requests.{is_well_formed, request_waiting};
 ghost use Rattle.rtio_core.specs.Reply.{is_decided};
 ghost use Rattle.rtio_core.specs.Core.{core_top};
 ghost use Rattle.rtio_core.specs.Calls.{AnswersTick, has_to_wait, told_limit};
-ghost use Rattle.rtio_core.specs.Errors.{CollisionsHaveReason};
 
 use super::Core;
 use crate::Tick;
@@ -16,9 +15,7 @@ impl Core {
     /// Raises the counter by one cycle, if it may go on: in an open session while it is within the limit, or a request
     /// waits that isn't decided; with no session open until every accepted event is put out. It ends at the horizon.
     pub fn tick(&mut self) -> Tick
-        ensures answer { AnswersTick self.old result self.new }
-        // Events collide only with others of their channel and cycle.
-        ensures collisions { CollisionsHaveReason self.new.config self.new.history }
+        ensures { AnswersTick self.old result self.new }
     {
         if self.count == self.config.horizon {
             return Tick::Horizon;

@@ -1,6 +1,6 @@
 // What is done with a core, one thing after another, and what it answers, told in words.
 
-use rtio_core::{Act, Ask, Config, Core, Entry, StartOf, Tick, config_ok};
+use rtio_core::{Act, Ask, Config, Core, Entry, Named, NamedList, StartOf, Tick, config_ok};
 use rtio_log::LogLine;
 use rtio_types::{
     Edge, EdgeList, Event, IntList, Name, Outcome, Recording, Reply, Request, Value, well_formed,
@@ -46,6 +46,9 @@ pub struct Numbers {
     pub depth: u32,
     pub cost: u64,
     pub horizon: u64,
+    pub holds: [u32; 32],
+    /// The value of a block that the core begins with, saved under the name `p`.
+    pub kept: Option<u32>,
 }
 
 /// The settings of `artiq_sim`: a request costs nothing.
@@ -54,7 +57,16 @@ pub const FREE: Numbers = Numbers {
     depth: 128,
     cost: 0,
     horizon: 134_217_728,
+    holds: [0; 32],
+    kept: None,
 };
+
+/// Holds of this many cycles on channel 0 and of none on the others.
+pub fn held(cycles: u32) -> [u32; 32] {
+    let mut holds = [0; 32];
+    holds[0] = cycles;
+    holds
+}
 
 /// An output at address 0.
 pub const fn event(channel: u8, value: u32, stamp: i64) -> Event {
@@ -89,6 +101,8 @@ fn started(alloc: Global, numbers: Numbers, edges: &[Edge]) -> Option<Core> {
         cost: numbers.cost,
         horizon: numbers.horizon,
         edges: EdgeList::of(Vec::from_slice(alloc, edges).ok()?),
+        holds: numbers.holds,
+        kept: kept(alloc, numbers.kept).ok()?,
     };
     if !config_ok(&config) {
         return None;
@@ -96,6 +110,25 @@ fn started(alloc: Global, numbers: Numbers, edges: &[Edge]) -> Option<Core> {
     let mut core = Core::new(alloc, config).ok()?;
     core.start(alloc, 0, main_of(alloc, 0)).ok()?;
     Some(core)
+}
+
+// The recordings that a core begins with.
+fn kept(alloc: Global, value: Option<u32>) -> Result<NamedList, Fail> {
+    let mut kept = Vec::new(alloc);
+    if let Some(value) = value {
+        let name = Name::read(b"p").ok_or("no name")?;
+        let recording = block(alloc, value)?;
+        kept.push(Named { name, recording })?;
+    }
+    Ok(NamedList::of(kept))
+}
+
+// A block of 80 mu: one output of channel 0 with this value, at 50.
+fn block(alloc: Global, value: u32) -> Result<Recording, AllocError> {
+    Ok(Recording {
+        events: vec![in alloc; event(0, value, 50)]?,
+        length: 80,
+    })
 }
 
 fn main_of(alloc: Global, rid: u64) -> StartOf {
@@ -146,10 +179,7 @@ fn request_of(alloc: Global, step: Step) -> Result<Option<Request>, Fail> {
         },
         Step::Save(value) => Request::Save {
             name,
-            recording: Recording {
-                events: vec![in alloc; event(0, value, 50)]?,
-                length: 80,
-            },
+            recording: block(alloc, value)?,
         },
         Step::Fetch => Request::Fetch { name },
         Step::FetchHandle(handle) => Request::FetchHandle { handle },

@@ -11,5 +11,5 @@ miss-requires-clause-number c =
 pub invariant_of-self-2 : goal.invariant_of-self-2
 invariant_of-self-2 c =
     output_keeps c.self.inside c.args.self.now c.push_reserved.new.self c.miss.new.self c.args.who c.args.event _ _ c.self.view_is c.self.invariant c.requires.open c.requires.waiting c.requires.request refl
-    (reply-late c.args.self.now c.args.event c.requires.late) (c.miss.ensures _ _ _ c.self.invariant.played)
+    (reply-late c.args.self.now c.args.event c.requires.late) (c.miss.ensures _ _ _ _ c.self.invariant.played)
     (pushed-onto _ _ _ _ c.push_reserved.ensures.items c.reserve.ensures.items) c.raised-self-inside.ensures

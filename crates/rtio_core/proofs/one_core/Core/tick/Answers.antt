@@ -1,23 +1,11 @@
 use Rattle.std.proofs.Common.{arith, refl}
-use Rattle.output_merge.specs.Live.{live}
-use Rattle.output_merge.proofs.Alone.{collisions-have-company}
-use Rattle.rtio_core.specs.Entries.{judged_history}
 use Rattle.rtio_input.proofs.Undecided.{passes-next}
 use Rattle.rtio_core.proofs.Cycled.{put-out-longer, put-out-of-cycle, tick_keeps}
 use Rattle.rtio_core.proofs.one_core.Core.tick.Goals as goal
 
-pub returns-then-self-clause-collisions : goal.returns-then-self-clause-collisions
-returns-then-self-clause-collisions c = collisions-have-company (live (judged_history c.args.self.now.config c.args.self.now.history))
-
-pub returns-then-not-goes_on-clause-collisions : goal.returns-then-not-goes_on-clause-collisions
-returns-then-not-goes_on-clause-collisions c = collisions-have-company (live (judged_history c.args.self.now.config c.args.self.now.history))
-
-pub returns-clause-collisions : goal.returns-clause-collisions
-returns-clause-collisions c = collisions-have-company (live (judged_history c.self.inside.config c.self.inside.entries.items))
-
 pub put_out_after-kept-requires : goal.put_out_after-kept-requires
 put_out_after-kept-requires c =
-    let longer = put-out-longer c.self.inside c.advance.new.self c.self.invariant (c.advance.ensures _ _ _ c.self.invariant.played) in
+    let longer = put-out-longer c.self.inside c.advance.new.self c.self.invariant (c.advance.ensures _ _ _ _ c.self.invariant.played) in
     omega (arith, longer, c.count-before.ensures)
 
 pub cycle-requires-clause-none_skipped : goal.cycle-requires-clause-none_skipped
@@ -25,9 +13,9 @@ cycle-requires-clause-none_skipped c = passes-next c.self.inside.inputs _ _ _ c.
 
 pub cycle-requires-clause-put_out : goal.cycle-requires-clause-put_out
 cycle-requires-clause-put_out c =
-    put-out-of-cycle c.self.inside c.advance.new.self c.count-before.result c.put_out_after-kept.result.now c.self.invariant (c.advance.ensures _ _ _ c.self.invariant.played) c.count-before.ensures c.put_out_after-kept.ensures
+    put-out-of-cycle c.self.inside c.advance.new.self c.count-before.result c.put_out_after-kept.result.now c.self.invariant (c.advance.ensures _ _ _ _ c.self.invariant.played) c.count-before.ensures c.put_out_after-kept.ensures
 
 pub invariant_of-self : goal.invariant_of-self
 invariant_of-self c =
     tick_keeps c.self.inside c.args.self.now c.advance.new.self c.cycle.new.self c.count-before.result c.put_out_after-kept.result.now c.self.view_is c.self.invariant (c.if-not-goes_on.ensures.0 refl)
-    (c.advance.ensures _ _ _ c.self.invariant.played) c.count-before.ensures c.put_out_after-kept.ensures c.cycle.ensures.stands
+    (c.advance.ensures _ _ _ _ c.self.invariant.played) c.count-before.ensures c.put_out_after-kept.ensures c.cycle.ensures.stands
