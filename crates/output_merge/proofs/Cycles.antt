@@ -11,7 +11,7 @@ use Rattle.sed_lanes.specs.Judged.{Judged}
 use Rattle.output_merge.specs.Live.{live}
 use Rattle.output_merge.specs.Busy.{put_out}
 use Rattle.output_merge.specs.Groups.{is_put_out_before, keepers, part_of, is_keeper}
-use Rattle.output_merge.specs.Outputs.{outputs, put_out_by, up_to}
+use Rattle.output_merge.specs.Outputs.{outputs, put_out_by}
 use Rattle.output_merge.proofs.Busies.{by-cycle-put_out}
 use Rattle.output_merge.proofs.Histories.{AreFrom, AreByCycle, of_cycle, up_to-next}
 

@@ -11,9 +11,9 @@ use Rattle.std.proofs.lemmas.Option.{slice_get_within}
 use Rattle.rtio_types.specs.declared.event.Event.{Event}
 use Rattle.rtio_types.specs.Time.{cycle_of}
 use Rattle.sed_lanes.proofs.Histories.{map-set_at}
-use Rattle.output_merge.specs.Busy.{hold_of, is_busy, keeps_busy}
+use Rattle.output_merge.specs.Busy.{hold_of, is_busy}
 use Rattle.output_merge.specs.Merge.{are_of_cycle}
-use Rattle.output_merge.specs.Sieve.{HoldsState, are_before, free_from, held_by, holds_after, is_held}
+use Rattle.output_merge.specs.Sieve.{are_before, free_from, held_by, holds_after, is_held}
 use Rattle.output_merge.proofs.Placing.{drop-item}
 use Rattle.output_merge.proofs.Summing.{take-item}
 

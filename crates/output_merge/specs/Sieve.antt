@@ -1,5 +1,5 @@
 -- What a sieve knows of the channels, and what it leaves.
-use Rattle.std.specs.Prelude.{◌≡◌, ℕ, ◌+◌, Bool, not, ◌==◌, List, [], ◌∷◌, ◌++◌, filter, if◌then◌else◌, get_or, length, map, max, nat_lt, set}
+use Rattle.std.specs.Prelude.{◌≡◌, ℕ, ◌+◌, Bool, not, ◌==◌, List, [], ◌∷◌, ◌++◌, filter, if◌then◌else◌, get_or, map, max, nat_lt, set}
 use Rattle.std.specs.List.{list_all, range_with_len}
 use Rattle.rtio_types.specs.declared.event.Event.{Event}
 use Rattle.rtio_types.specs.Time.{cycle_of}

@@ -1,6 +1,9 @@
 -- What a reset does to what a core keeps of its outputs.
 use Rattle.std.proofs.Common.{◌≡◌, ◌≤◌, ℕ, List, [], ◌∷◌, ◌++◌, length, ap, sym, subst, ◌∙◌, arith}
+use Rattle.std.specs.Prelude.{nat_le}
+use Rattle.std.specs.List.{list_all}
 use Rattle.rtio_types.specs.declared.event.Event.{Event}
+use Rattle.rtio_types.specs.Time.{cycle_of}
 use Rattle.rtio_log.specs.Lines.{LogState}
 use Rattle.rtio_log.specs.declared.LogLine.{LogLine}
 use Rattle.rtio_log.specs.declared.LogKind.TheVariants as kind
@@ -36,14 +39,15 @@ pub length-by_number : (pairs : List (ℕ × Event)) → length (by_number pairs
 length-by_number pairs = length-sorted is_earlier pairs
 
 -- the held events are logged, and the lanes are empty
-pub played-cleared : (o : Outputs) (holds : List ℕ) (left : LanesState) (cleared : HeadsState) (log : LogState) (greatest counter lanes depth : ℕ) (steps : List LaneStep) → IsPlayed o holds lanes depth steps counter → left ≡ empty_lanes (length o.lanes.lanes) o.lanes.depth → cleared.items ≡ by_number (held_events o.lanes) → log.lines ≡ o.log.lines ++ lines_for kind.Cleared cleared.items → greatest ≡ o.reached → IsPlayed (record o { lanes = left; log = log; greatest = greatest }) holds lanes depth (steps ++ Clear counter ∷ []) counter
-played-cleared o holds left cleared log greatest counter lanes depth steps h after moved logs falls =
+pub played-cleared : (o : Outputs) (holds : List ℕ) (left : LanesState) (cleared : HeadsState) (log : LogState) (greatest next counter lanes depth : ℕ) (steps : List LaneStep) → IsPlayed o holds lanes depth steps counter → left ≡ empty_lanes (length o.lanes.lanes) o.lanes.depth → cleared.items ≡ by_number (held_events o.lanes) → log.lines ≡ o.log.lines ++ lines_for kind.Cleared cleared.items → greatest ≡ o.reached → IsPlayed (record o { lanes = left; log = log; greatest = greatest; next = next }) holds lanes depth (steps ++ Clear counter ∷ []) counter
+played-cleared o holds left cleared log greatest next counter lanes depth steps h after moved logs falls =
     let old : List Judged = judged lanes depth steps in
     let new : List Judged = old ++ Cleared counter ∷ [] in
     let grows : new ≡ judged lanes depth (steps ++ Clear counter ∷ []) = sym (judged-clear lanes depth steps counter) in
     let long : length o.lanes.lanes ≡ lanes = ap (λ (s : LanesState). length s.lanes) h.standing ∙ length-lanes_after lanes depth old counter in
     let deep : o.lanes.depth ≡ depth = ap (λ (s : LanesState). s.depth) h.standing in
     let empty : left ≡ empty_lanes lanes depth = after ∙ ap (λ (n : ℕ). empty_lanes n o.lanes.depth) long ∙ ap (empty_lanes lanes) deep in
+    let nothing : held_events left ≡ [] = ap (λ (s : LanesState). held_events s) empty ∙ held-none lanes depth in
     let held : length (held_events left) ≡ 0 = ap (λ (s : LanesState). length (held_events s)) empty ∙ ap (λ (ps : List (ℕ × Event)). length ps) (held-none lanes depth) in
     let there : cleared.items ≡ by_number (held_events (lanes_after lanes depth old counter)) = moved ∙ ap (λ (s : LanesState). by_number (held_events s)) h.standing in
     let settled : up_to counter (live new) ≡ up_to counter (live old) = live-up_to-cleared old counter counter (omega arith) in
@@ -70,6 +74,7 @@ played-cleared o holds left cleared log greatest counter lanes depth steps h aft
       greatest = falls ∙ h.reached ∙ sym (greatest-cleared old counter) ∙ ap (λ (j : List Judged). greatest_cycle (live j)) grows;
       reached = h.reached ∙ ap greatest_cycle (sym settled) ∙ ap (λ (j : List Judged). greatest_cycle (up_to counter (live j))) grows;
       small = omega (arith, part, h.small);
+      next = ap (list_all (λ (p : ℕ × Event). nat_le next (cycle_of p.1))) nothing;
       output_room = omega (arith, held, h.output_room);
       log_room = omega (arith, held);
       heads = h.heads;

@@ -10,6 +10,7 @@ mod LogLines
 mod LogOrder
 mod LogExamples
 mod Submitted
+mod Quiet
 mod Ticked
 mod Cycled
 mod Asked

@@ -1,10 +1,12 @@
 -- The parts of a new core.
 use Rattle.std.proofs.Common.{◌≡◌, ◌≤◌, ℕ, zero, suc, ◌+◌, List, [], ◌∷◌, map, replicate, refl, sym, ◌∙◌, ap, arith, length}
-use Rattle.std.specs.Prelude.{IsTrue, None, Vec, pos, vec_len}
+use Rattle.std.specs.Prelude.{IsTrue, None, Vec, nat_le, pos, vec_len}
 use Rattle.std.proofs.Common.{lit<}
 use Rattle.std.specs.declared.alloc.Global.{Global}
-use Rattle.std.specs.List.{range_with_len}
-use Rattle.sed_lanes.specs.Lanes.{empty_lanes, held_events}
+use Rattle.std.specs.List.{list_all, range_with_len}
+use Rattle.rtio_types.specs.declared.event.Event.{Event}
+use Rattle.rtio_types.specs.Time.{cycle_of}
+use Rattle.sed_lanes.specs.Lanes.{LanesState, empty_lanes, held_events}
 use Rattle.rtio_input.specs.Channel.{InputsState}
 use Rattle.rtio_input.specs.Past.{InputsStandFor}
 use Rattle.dma_store.specs.Kept.{KeptState}
@@ -29,6 +31,7 @@ held-none (suc lanes) depth = held-none lanes depth
 -- outputs without any step
 pub played-new : (holds : List ℕ) (lanes depth : ℕ) (o : Outputs) → 1 ≤ lanes → lanes ≤ 32 → 1 ≤ depth → o.lanes ≡ empty_lanes lanes depth → o.log ≡ record { lines = []; room = 0 } → o.holds ≡ holds_after holds [] → o.put_out.items ≡ [] → vec_len o.put_out ≡ 0 → o.peaks.items ≡ replicate lanes 0 → o.number ≡ 0 → o.greatest ≡ 0 → o.reached ≡ 0 → o.heads ≡ record { items = []; room = 32 } → o.kept ≡ record { items = []; room = 32 } → o.collided ≡ record { items = []; room = 32 } → o.busy ≡ record { items = []; room = 32 } → IsPlayed o holds lanes depth [] 0
 played-new holds lanes depth o some few deep is_empty no_lines no_hold no_output short zeros no_number no_greatest no_reached is_heads is_kept is_collided is_busy =
+    let nothing : held_events o.lanes ≡ [] = ap (λ (l : LanesState). held_events l) is_empty ∙ held-none lanes depth in
     let held : length (held_events o.lanes) ≡ 0 = rw (is_empty, held-none lanes depth) refl in
     record {
       lanes_least = some;
@@ -45,6 +48,7 @@ played-new holds lanes depth o some few deep is_empty no_lines no_hold no_output
       greatest = no_greatest;
       reached = no_reached;
       small = rw no_greatest (lit< tt);
+      next = ap (list_all (λ (p : ℕ × Event). nat_le o.next (cycle_of p.1))) nothing;
       output_room = rw held (omega (arith, short));
       log_room = rw held (omega arith);
       heads = is_heads;

@@ -1,6 +1,6 @@
 -- What one output more does to what a core keeps of its outputs.
 use Rattle.std.proofs.Common.{◌≡◌, ◌+◌, ◌-◌, ◌^◌, ◌≤◌, ◌<◌, ℕ, true, List, [], ◌∷◌, ◌++◌, get_or, length, max, set, refl, ap, sym, subst, ◌∙◌, append-nil, arith}
-use Rattle.std.specs.Prelude.{ℤ, nat_le, Vec, vec_len, vec_capacity}
+use Rattle.std.specs.Prelude.{ℤ, min, nat_le, Vec, vec_len, vec_capacity}
 use Rattle.std.proofs.lemmas.Bool.{le-leb}
 use Rattle.std.specs.declared.alloc.Global.{Global}
 use Rattle.rtio_types.specs.declared.event.Event.{Event}
@@ -14,7 +14,7 @@ use Rattle.sed_lanes.specs.Verdict.{Verdict, Underflow, Lane, Sequence, Undecide
 use Rattle.sed_lanes.specs.declared.lanes.Place.TheVariants as place
 use Rattle.std.proofs.lemmas.List.{length-set}
 use Rattle.std.proofs.lemmas.List.FromFn.{length-map-range_with_len}
-use Rattle.sed_lanes.specs.Calls.{Answers, after_verdict, all_held_after, is_new_number}
+use Rattle.sed_lanes.specs.Calls.{Answers, after_verdict, all_held_after, all_held_from, is_new_number}
 use Rattle.sed_lanes.specs.Peaks.{peak_from, peaks_of}
 use Rattle.sed_lanes.proofs.Growing.{never-fall-push}
 use Rattle.sed_lanes.proofs.HeldByNumber.{held-later, held-new-number, length-held-accepted}
@@ -37,6 +37,7 @@ use Rattle.rtio_core.specs.LogOrder.{lines_of_step, log_lines}
 use Rattle.rtio_core.specs.Played.{IsPlayed}
 use Rattle.rtio_core.specs.Told.{TellsLog}
 use Rattle.rtio_core.proofs.LogLines.{tells-same, tells-sequence}
+use Rattle.rtio_core.proofs.Quiet.{from-accepted}
 use Rattle.rtio_core.proofs.LogOrder.{lines-accepted, lines-unplaced, tells-live}
 
 -- the event has the next number and its verdict
@@ -70,6 +71,7 @@ played-unplaced o holds lanes depth steps counter e v log number h is un next te
       greatest = h.greatest ∙ ap greatest_cycle same;
       reached = h.reached ∙ ap (λ (events : List (ℕ × Event)). greatest_cycle (up_to counter events)) same;
       small = h.small;
+      next = h.next;
       output_room = h.output_room;
       log_room = room;
       heads = h.heads;
@@ -133,8 +135,8 @@ lane-below o holds counter e k lanes depth steps h answers =
     subst (IsLaneBelow lanes) is (verdict-among lanes depth (judged lanes depth steps) counter e (among lanes depth steps h.lanes_least))
 
 -- a lane took it
-pub played-accepted : (o : Outputs) (holds : List ℕ) (left : LanesState) (peaks : Vec ℕ Global) (held peak greatest number counter : ℕ) (e : Event) (k lanes depth : ℕ) (steps : List LaneStep) → IsPlayed o holds lanes depth steps counter → counter < cycle_of e → Answers o.lanes e (verdict o.lanes e counter) (place.Lane k) → left ≡ after_verdict o.lanes o.number e (verdict o.lanes e counter) → held ≡ length (lane_at left k).held → peak ≡ max (get_or o.peaks.items k 0) held → peaks.items ≡ set o.peaks.items k peak → greatest ≡ max o.greatest (cycle_of e) → cycle_of e < 2 ^ 60 → number ≡ o.number + 1 → length (held_events o.lanes) + 1 ≤ o.log.room → vec_len o.put_out + length (held_events o.lanes) + 1 ≤ vec_capacity o.put_out → IsPlayed (record o { lanes = left; peaks = peaks; greatest = greatest; number = number }) holds lanes depth (steps ++ Submit counter e ∷ []) counter
-played-accepted o holds left peaks held peak greatest number counter e k lanes depth steps h later answers after counts tops sets grew low next line room =
+pub played-accepted : (o : Outputs) (holds : List ℕ) (left : LanesState) (peaks : Vec ℕ Global) (held peak greatest next_then number counter : ℕ) (e : Event) (k lanes depth : ℕ) (steps : List LaneStep) → IsPlayed o holds lanes depth steps counter → counter < cycle_of e → Answers o.lanes e (verdict o.lanes e counter) (place.Lane k) → left ≡ after_verdict o.lanes o.number e (verdict o.lanes e counter) → held ≡ length (lane_at left k).held → peak ≡ max (get_or o.peaks.items k 0) held → peaks.items ≡ set o.peaks.items k peak → greatest ≡ max o.greatest (cycle_of e) → next_then ≡ min o.next (cycle_of e) → cycle_of e < 2 ^ 60 → number ≡ o.number + 1 → length (held_events o.lanes) + 1 ≤ o.log.room → vec_len o.put_out + length (held_events o.lanes) + 1 ≤ vec_capacity o.put_out → IsPlayed (record o { lanes = left; peaks = peaks; greatest = greatest; next = next_then; number = number }) holds lanes depth (steps ++ Submit counter e ∷ []) counter
+played-accepted o holds left peaks held peak greatest next_then number counter e k lanes depth steps h later answers after counts tops sets grew sooner low next line room =
     let old : List Judged = judged lanes depth steps in
     let n : ℕ = next_number old in
     let is : verdict o.lanes e counter ≡ Lane k = verdict-lane o.lanes e (verdict o.lanes e counter) k answers in
@@ -172,6 +174,7 @@ played-accepted o holds left peaks held peak greatest number counter e k lanes d
       greatest = grew ∙ ap (λ (m : ℕ). max m (cycle_of e)) h.greatest ∙ sym (greatest-accepted (live old) (n, e)) ∙ ap greatest_cycle (sym events) ∙ ap (λ (j : List Judged). greatest_cycle (live j)) grows;
       reached = h.reached ∙ ap greatest_cycle (sym settled) ∙ ap (λ (j : List Judged). greatest_cycle (up_to counter (live j))) grows;
       small = rw grew (omega (arith, low, h.small));
+      next = ap (all_held_from next_then) stood ∙ from-accepted o.lanes k o.number o.next next_then e (subst (λ (m : ℕ). k < m) (sym many) below) h.next (omega (arith, sooner)) (omega (arith, sooner));
       output_room = omega (arith, one_more, room);
       log_room = omega (arith, one_more, line);
       heads = h.heads;

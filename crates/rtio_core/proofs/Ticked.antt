@@ -1,5 +1,5 @@
 -- What one cycle more does to what a core keeps of its outputs.
-use Rattle.std.proofs.Common.{◌≡◌, ◌+◌, ◌≤◌, ◌<◌, ℕ, true, List, [], ◌∷◌, ◌++◌, length, map, refl, ap, sym, subst, ◌∙◌, arith, append-nil, append_assoc}
+use Rattle.std.proofs.Common.{◌≡◌, ◌+◌, ◌≤◌, ◌<◌, ℕ, zero, suc, true, List, [], ◌∷◌, ◌++◌, length, map, refl, ap, sym, subst, ◌∙◌, arith, append-nil, append_assoc}
 use Rattle.std.specs.Prelude.{Vec, filter, nat_eq, not, vec_len, vec_capacity}
 use Rattle.std.specs.List.{IsDistinct}
 use Rattle.std.specs.Map.{keys_of}
@@ -30,6 +30,7 @@ use Rattle.rtio_core.specs.Lines.{lines_for}
 use Rattle.rtio_core.specs.LogOrder.{log_lines}
 use Rattle.rtio_core.specs.Played.{IsPlayed}
 use Rattle.rtio_core.specs.Told.{TellsLog}
+use Rattle.rtio_core.proofs.Quiet.{none-before, same-without}
 use Rattle.rtio_core.proofs.LogLines.{tells-busy, tells-collided, tells-same}
 use Rattle.rtio_core.proofs.LogOrder.{lines-tick}
 
@@ -77,8 +78,8 @@ held-left o left counter drained after moved =
     ∙ length-held-without (counter + 1) o.lanes
 
 -- there was no event of the cycle
-pub played-idle : (o : Outputs) (holds : List ℕ) (left : LanesState) (heads : HeadsState) (counter lanes depth : ℕ) (steps : List LaneStep) → IsPlayed o holds lanes depth steps counter → left ≡ without (counter + 1) o.lanes → heads.items ≡ held_at (counter + 1) o.lanes → heads.room + length heads.items ≡ o.heads.room → length heads.items ≡ 0 → IsPlayed (record o { lanes = left; heads = heads }) holds lanes depth steps (counter + 1)
-played-idle o holds left heads counter lanes depth steps h after moved space none =
+pub played-idle : (o : Outputs) (holds : List ℕ) (left : LanesState) (heads : HeadsState) (next counter lanes depth : ℕ) (steps : List LaneStep) → IsPlayed o holds lanes depth steps counter → left ≡ without (counter + 1) o.lanes → heads.items ≡ held_at (counter + 1) o.lanes → heads.room + length heads.items ≡ o.heads.room → length heads.items ≡ 0 → all_held_from next left ≡ true → IsPlayed (record o { lanes = left; heads = heads; next = next }) holds lanes depth steps (counter + 1)
+played-idle o holds left heads next counter lanes depth steps h after moved space none from =
     let old : List Judged = judged lanes depth steps in
     let out : List (ℕ × Event) = put_out_by holds old counter in
     let empty : heads.items ≡ [] = none-there heads.items none in
@@ -108,6 +109,7 @@ played-idle o holds left heads counter lanes depth steps h after moved space non
       greatest = h.greatest;
       reached = h.reached ∙ sym (greatest-tick-none lanes depth steps counter h.lanes_least h.in_time nothing);
       small = h.small;
+      next = from;
       output_room = omega (arith, fewer, h.output_room);
       log_room = omega (arith, fewer, h.log_room);
       heads = ap (λ (ps : List (ℕ × Event)). record { items = ps; room = heads.room }) empty ∙ ap (λ (n : ℕ). record { items = []; room = n }) room;
@@ -115,6 +117,27 @@ played-idle o holds left heads counter lanes depth steps h after moved space non
       collided = h.collided;
       busy = h.busy;
     }
+
+-- nothing is held of the next cycle
+pub played-still : (o : Outputs) (holds : List ℕ) (counter lanes depth : ℕ) (steps : List LaneStep) → IsPlayed o holds lanes depth steps counter → counter + 1 < o.next → IsPlayed o holds lanes depth steps (counter + 1)
+played-still o holds counter lanes depth steps h lt =
+    let none : held_at (counter + 1) o.lanes ≡ [] = none-before o.lanes o.next (counter + 1) lt h.next in
+    let same : without (counter + 1) o.lanes ≡ o.lanes = same-without o.lanes o.next (counter + 1) lt h.next in
+    let no_heads : o.heads.items ≡ [] = ap (λ (x : HeadsState). x.items) h.heads in
+    let no_length : length o.heads.items ≡ 0 = ap (λ (ps : List (ℕ × Event)). length ps) no_heads in
+    subst (λ (s : LanesState). IsPlayed (record o { lanes = s }) holds lanes depth steps (counter + 1)) same
+    (played-idle o holds (without (counter + 1) o.lanes) o.heads o.next counter lanes depth steps h refl (no_heads ∙ sym none) (omega (arith, no_length)) no_length
+    (ap (all_held_from o.next) same ∙ h.next))
+
+-- nor of so many
+pub played-quiet : (o : Outputs) (holds : List ℕ) (more counter lanes depth : ℕ) (steps : List LaneStep) → IsPlayed o holds lanes depth steps counter → counter + more < o.next → IsPlayed o holds lanes depth steps (counter + more)
+played-quiet o holds zero counter lanes depth steps h lt =
+    let same : counter ≡ counter + 0 = omega arith in
+    subst (IsPlayed o holds lanes depth steps) same h
+played-quiet o holds (suc more) counter lanes depth steps h lt =
+    let same : counter + 1 + more ≡ counter + suc more = omega arith in
+    subst (IsPlayed o holds lanes depth steps) same
+    (played-quiet o holds more (counter + 1) lanes depth steps (played-still o holds counter lanes depth steps h (omega (arith, lt))) (omega (arith, lt)))
 
 -- a merge gives no more than it was given
 merged-few : (pairs : List (ℕ × Event)) → length (keepers (by_number pairs)) + length (collisions (by_number pairs)) ≤ length pairs
@@ -190,6 +213,7 @@ pub record Ticks : Type 0 where
   pub put_out : Vec Event Global
   pub log_between : LogState
   pub log : LogState
+  pub next : ℕ
 
 pub record IsTicked (o : Outputs) (holds : List ℕ) (out : List (ℕ × Event)) (counter : ℕ) (t : Ticks) : Type 0 where
   pub after : t.lanes ≡ without (counter + 1) o.lanes
@@ -211,6 +235,7 @@ pub record IsTicked (o : Outputs) (holds : List ℕ) (out : List (ℕ × Event))
   pub none_busy : t.no_busy ≡ record { items = []; room = t.busy_left.room + length t.busy_left.items }
   pub logs_more : t.log.lines ≡ t.log_between.lines ++ lines_for kind.Busy t.busy_left.items
   pub shorter_still : t.log.room + length t.busy_left.items ≡ t.log_between.room
+  pub next : all_held_from t.next t.lanes ≡ true
 
 -- the outputs with what was put out and logged
 abbrev pub ticked : Outputs → Ticks → ℕ → Outputs
@@ -225,6 +250,7 @@ ticked o t reached =
       holds = t.holds;
       put_out = t.put_out;
       log = t.log;
+      next = t.next;
     }
 
 -- its events were put out, or logged as collisions or as busy
@@ -276,6 +302,7 @@ played-ticked o holds t reached counter lanes depth steps h k reaches =
       greatest = h.greatest;
       reached = reaches ∙ sym (greatest-tick-some lanes depth steps counter h.lanes_least h.in_time some_there);
       small = h.small;
+      next = k.next;
       output_room = omega (arith, fewer, h.output_room, s.few, k.longer, k.fits);
       log_room = omega (arith, fewer, h.log_room, s.few, k.shorter, k.shorter_still);
       heads = full-room t.heads (t.drained.room + length t.drained.items) k.no_heads had;

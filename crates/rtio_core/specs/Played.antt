@@ -1,5 +1,6 @@
 -- What a core keeps of its outputs, in terms of the outputs and resets of its history.
-use Rattle.std.specs.Prelude.{◌≡◌, ℕ, ◌+◌, ◌^◌, ◌≤◌, ◌<◌, List, [], length, vec_len, vec_capacity}
+use Rattle.std.specs.Prelude.{◌≡◌, ℕ, true, ◌+◌, ◌^◌, ◌≤◌, ◌<◌, List, [], length, vec_len, vec_capacity}
+use Rattle.sed_lanes.specs.Calls.{all_held_from}
 use Rattle.sed_lanes.specs.Lanes.{held_events}
 use Rattle.sed_lanes.specs.Counters.{NeverFall}
 use Rattle.sed_lanes.specs.Judged.{LaneStep, judged, lanes_after, next_number}
@@ -27,6 +28,7 @@ pub record IsPlayed (o : Outputs) (holds : List ℕ) (lanes depth : ℕ) (steps 
   pub greatest : o.greatest ≡ greatest_cycle (live (judged lanes depth steps))
   pub reached : o.reached ≡ greatest_cycle (up_to counter (live (judged lanes depth steps)))
   pub small : o.greatest < 2 ^ 60
+  pub next : all_held_from o.next o.lanes ≡ true
   pub output_room : vec_len o.put_out + length (held_events o.lanes) ≤ vec_capacity o.put_out
   pub log_room : length (held_events o.lanes) ≤ o.log.room
   pub heads : o.heads ≡ record { items = []; room = 32 }

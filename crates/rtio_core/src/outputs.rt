@@ -27,6 +27,8 @@ pub struct Outputs {
     pub greatest: u64,
     /// The greatest cycle of those among them that aren't held any more.
     pub reached: u64,
+    /// No held event is of an earlier cycle.
+    pub next: u64,
     /// What a tick drains, and what the merge and the sieve make of it.
     pub heads: Heads,
     pub kept: Heads,
@@ -96,6 +98,7 @@ impl Outputs {
             number: 0,
             greatest: 0,
             reached: 0,
+            next: u64::MAX,
             heads,
             kept,
             collided,
@@ -146,6 +149,7 @@ impl Outputs {
                 let peak = self.peaks[lane as usize].max(held);
                 self.peaks[lane as usize] = peak;
                 self.greatest = self.greatest.max(cycle_of(&event));
+                self.next = self.next.min(cycle_of(&event));
             }
             Place::Sequence { .. } => self.log.add(LogLine {
                 kind: LogKind::Sequence,
@@ -167,6 +171,7 @@ impl Outputs {
         self.lanes.clear(&mut cleared);
         log_all(&mut cleared, LogKind::Cleared, &mut self.log);
         self.greatest = self.reached;
+        self.next = u64::MAX;
         Ok(())
     }
 
@@ -194,7 +199,11 @@ impl Outputs {
             → IsPlayed self.new holds lanes depth steps (counter + 1) }
     {
         let cycle = counter + 1;
+        if cycle < self.next {
+            return;
+        }
         self.lanes.drain(cycle, &mut self.heads);
+        self.next = self.lanes.next_cycle().unwrap_or(u64::MAX);
         if self.heads.len() == 0 {
             return;
         }

@@ -102,7 +102,7 @@ fn started(alloc: Global, numbers: Numbers, edges: &[Edge]) -> Option<Core> {
         horizon: numbers.horizon,
         edges: EdgeList::of(Vec::from_slice(alloc, edges).ok()?),
         holds: numbers.holds,
-        kept: kept(alloc, numbers.kept).ok()?,
+        kept: kept(alloc, numbers.kept)?,
     };
     if !config_ok(&config) {
         return None;
@@ -113,14 +113,14 @@ fn started(alloc: Global, numbers: Numbers, edges: &[Edge]) -> Option<Core> {
 }
 
 // The recordings that a core begins with.
-fn kept(alloc: Global, value: Option<u32>) -> Result<NamedList, Fail> {
+fn kept(alloc: Global, value: Option<u32>) -> Option<NamedList> {
     let mut kept = Vec::new(alloc);
     if let Some(value) = value {
-        let name = Name::read(b"p").ok_or("no name")?;
-        let recording = block(alloc, value)?;
-        kept.push(Named { name, recording })?;
+        let name = Name::read(b"p")?;
+        let recording = block(alloc, value).ok()?;
+        kept.push(Named { name, recording }).ok()?;
     }
-    Ok(NamedList::of(kept))
+    Some(NamedList::of(kept))
 }
 
 // A block of 80 mu: one output of channel 0 with this value, at 50.

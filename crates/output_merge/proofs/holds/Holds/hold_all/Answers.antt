@@ -1,4 +1,4 @@
-use Rattle.std.proofs.Common.{ℕ, List, [], ◌∷◌, ◌++◌, take, ap, sym, ◌∙◌, append_assoc, append-nil}
+use Rattle.std.proofs.Common.{ℕ, List, [], ◌∷◌, ◌++◌, take, ap, sym, ◌∙◌, append_assoc}
 use Rattle.rtio_types.specs.declared.event.Event.{Event}
 use Rattle.output_merge.specs.Sieve.{HoldsState, held_by, holds_after}
 use Rattle.output_merge.proofs.Sieves.{hold-next}

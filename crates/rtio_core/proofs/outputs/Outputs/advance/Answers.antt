@@ -8,7 +8,8 @@ use Rattle.sed_lanes.specs.Judged.{Judged, judged}
 use Rattle.output_merge.specs.Merge.{are_of_cycle}
 use Rattle.output_merge.specs.Outputs.{put_out_by}
 use Rattle.output_merge.proofs.Ticks.{keepers-of_one, put_out-before}
-use Rattle.rtio_core.proofs.Ticked.{IsMerged, IsTicked, Ticks, drained-few, may-drain, played-idle, played-ticked, has-merged, has-sieved}
+use Rattle.rtio_core.proofs.Quiet.{from-next}
+use Rattle.rtio_core.proofs.Ticked.{IsMerged, IsTicked, Ticks, drained-few, may-drain, played-idle, played-still, played-ticked, has-merged, has-sieved}
 use Rattle.rtio_core.proofs.outputs.Outputs.advance.Goals as goal
 
 pub drain-requires-clause-room : goal.drain-requires-clause-room
@@ -22,7 +23,11 @@ drain-requires-clause-none_earlier c = (may-drain c.args.self.now _ c.args.count
 
 pub returns-then-len-eq0 : goal.returns-then-len-eq0
 returns-then-len-eq0 c = λ holds lanes depth steps h.
-    played-idle c.args.self.now holds c.drain.new.self c.drain.new.into c.args.counter lanes depth steps h c.drain.ensures.after c.drain.ensures.moved c.drain.ensures.room (sym c.len.ensures ∙ c.if-len-eq0.true)
+    played-idle c.args.self.now holds c.drain.new.self c.drain.new.into _ c.args.counter lanes depth steps h c.drain.ensures.after c.drain.ensures.moved c.drain.ensures.room (sym c.len.ensures ∙ c.if-len-eq0.true)
+    (from-next c.drain.new.self c.next_cycle.result c.unwrap_or-self.result 18446744073709551615 c.next_cycle.ensures c.unwrap_or-self.ensures)
+
+pub returns-then-cycle-self : goal.returns-then-cycle-self
+returns-then-cycle-self c = λ holds lanes depth steps h. played-still c.args.self.now holds c.args.counter lanes depth steps h (omega (arith, c.if-cycle-self.true))
 
 pub merge-requires-clause-one_cycle : goal.merge-requires-clause-one_cycle
 merge-requires-clause-one_cycle c =
@@ -98,6 +103,7 @@ returns c = λ holds lanes depth steps h.
       put_out = c.put_out.new.into;
       log_between = c.log_all.new.log;
       log = c.log_all-2.new.log;
+      next = c.unwrap_or-self.result;
     } in
     let is : IsTicked c.args.self.now holds (put_out_by holds (judged lanes depth steps) c.args.counter) c.args.counter t = record {
       after = c.drain.ensures.after;
@@ -119,5 +125,6 @@ returns c = λ holds lanes depth steps h.
       none_busy = c.log_all-2.ensures.from;
       logs_more = c.log_all-2.ensures.lines;
       shorter_still = c.log_all-2.ensures.room;
+      next = from-next c.drain.new.self c.next_cycle.result c.unwrap_or-self.result 18446744073709551615 c.next_cycle.ensures c.unwrap_or-self.ensures;
     } in
     played-ticked c.args.self.now holds t _ c.args.counter lanes depth steps h is refl

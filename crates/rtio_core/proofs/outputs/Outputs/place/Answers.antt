@@ -1,4 +1,4 @@
-use Rattle.std.proofs.Common.{◌≡◌, get_or, max, refl, ap, ◌∙◌, arith}
+use Rattle.std.proofs.Common.{◌≡◌, get_or, max, min, refl, ap, ◌∙◌, arith}
 use Rattle.std.proofs.lemmas.List.{get_or_read}
 use Rattle.rtio_core.proofs.Submitted.{held-are-later, lane-left, number-is-new, peak-below, played-accepted, played-sequence}
 use Rattle.rtio_core.proofs.outputs.Outputs.place.Goals as goal
@@ -27,8 +27,8 @@ returns-in-Lane c = λ holds lanes depth steps h.
     let below = peak-below c.args.self.now holds c.args.counter c.args.event c.in-Lane.lane lanes depth steps h c.in-Lane.ensures.answer in
     let was : c.index.result.now ≡ get_or c.args.self.now.peaks.items c.in-Lane.lane 0 = get_or_read c.args.self.now.peaks.items _ _ below c.index.ensures 0 in
     let peak : c.max-peak.result ≡ max (get_or c.args.self.now.peaks.items c.in-Lane.lane 0) c.held_by-held.result = c.max-peak.ensures ∙ ap (λ n. max n c.held_by-held.result) was in
-    played-accepted c.args.self.now holds c.place.new.self _ c.held_by-held.result c.max-peak.result c.max-self.result _ c.args.counter c.args.event c.in-Lane.lane lanes depth steps h c.requires.later c.in-Lane.ensures.answer c.place.ensures.after
-    c.held_by-held.ensures peak refl (c.max-self.ensures ∙ ap (max c.args.self.now.greatest) c.cycle_of.ensures.cycle) (omega (arith, c.cycle_of.ensures.cycle, c.cycle_of.ensures.small)) refl
+    played-accepted c.args.self.now holds c.place.new.self _ c.held_by-held.result c.max-peak.result c.max-self.result c.min-self.result _ c.args.counter c.args.event c.in-Lane.lane lanes depth steps h c.requires.later c.in-Lane.ensures.answer c.place.ensures.after
+    c.held_by-held.ensures peak refl (c.max-self.ensures ∙ ap (max c.args.self.now.greatest) c.cycle_of.ensures.cycle) (c.min-self.ensures ∙ ap (min c.args.self.now.next) c.cycle_of-in-Lane.ensures.cycle) (omega (arith, c.cycle_of.ensures.cycle, c.cycle_of.ensures.small)) refl
     c.requires.room.line c.requires.room.output
 
 pub returns-in-Sequence : goal.returns-in-Sequence
