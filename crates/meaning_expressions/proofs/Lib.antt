@@ -1,0 +1,4 @@
+mod Arguments
+mod Datasets
+mod Items
+mod Operated

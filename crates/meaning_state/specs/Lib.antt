@@ -1,0 +1,4 @@
+pub mod Does
+pub mod Edges
+pub mod Texts
+pub mod Values
