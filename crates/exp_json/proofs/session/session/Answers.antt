@@ -6,4 +6,4 @@ use Rattle.exp_json.proofs.session.session.Goals as goal
 
 pub returns : goal.returns
 returns c =
-    subst (Gives c.fields.result) (passed-session (view c.args.value.now) c.around_of-around.result c.around_of-around.ensures c.in_ok-an_object.ensures c.in_ok-only_session_keys.ensures) c.fields.ensures
+    subst (Gives c.fields.result) (passed-session (view c.args.value.now) c.around_of-around.result c.around_of-around.ensures c.in_ok-an_object.ensures.read c.in_ok-only_session_keys.ensures) c.fields.ensures
