@@ -1,0 +1,44 @@
+// How many instructions the turns of loops take.
+
+use crate::driver::{MAIN, begun, checked_of};
+use core_code::compile;
+use core_cpu::Stop;
+use std::alloc::Global;
+use std::process::Abort;
+use std::test::Fail;
+
+// How many instructions `main` begins where `n` is so much at first. It asks nothing.
+fn steps(rt: &impl Abort, alloc: Global, n: u32, body: &str) -> Result<u64, Fail> {
+    let text = format!(in alloc; "def main():\n    n = {n}\n{body}")?;
+    let compiled = compile(alloc, checked_of(rt, alloc, text.as_str())?)?;
+    let mut cpu = begun(rt, alloc, compiled.code(), 0, &MAIN)?;
+    match cpu.advance(alloc)? {
+        Stop::Ended(_) => Ok(cpu.steps()),
+        Stop::Ask(_) => panic!(rt; "{text} asks"),
+    }
+}
+
+// A `for` takes at most 11 instructions a turn beside its body, and a `while` 3 beside its condition and its body. A delay by
+// a literal takes 2, a comparison of two names 3, and an addition of a literal to a name of 64 bits 4.
+#[test]
+fn turns_take_few_instructions(rt: HostRuntime) -> Result<(), Fail> {
+    let alloc = rt.alloc();
+    let table = [
+        ("    for i in range(n):\n        pass\n", 11),
+        ("    for i in range(n):\n        delay_mu(5)\n", 13),
+        ("    k = int64(0)\n    while k < n:\n        k += 1\n", 10),
+    ];
+    for (body, bound) in table {
+        let few = steps(&rt, alloc, 2, body)?;
+        let many = steps(&rt, alloc, 52, body)?;
+        assert!(rt;
+            many <= few.saturating_add(50 * bound),
+            "{few} and {many} of {body}"
+        );
+        assert!(rt;
+            few.saturating_add(50) <= many,
+            "{few} and {many} of {body}"
+        );
+    }
+    Ok(())
+}
