@@ -1,5 +1,5 @@
 #!/usr/bin/env python3
-"""Times `artiq_sim check` on programs up to the limits beside python3, which compiles the same texts.
+"""Times `artiq_sim check` and `artiq_sim compile` on programs up to the limits beside python3, which compiles the same texts.
 
 The largest has 256 functions, 16,384 nodes and 1 MiB. Each name has 64 bytes, and each function
 calls the one before it.
@@ -41,8 +41,7 @@ def program_text(functions):
 
 
 if __name__ == "__main__":
-    compare(
-        [(f"{count} functions, {count * NODES} nodes", program_text(count), 0) for count in (64, 128, 256)],
-        command="check",
-        beside=COMPILE,
-    )
+    TEXTS = [(f"{count} functions, {count * NODES} nodes", program_text(count), 0) for count in (64, 128, 256)]
+    for command in ("check", "compile"):
+        print(command)
+        compare(TEXTS, command=command, beside=COMPILE)

@@ -24,7 +24,7 @@ use Rattle.kern_parser.specs.Answers.{EndsRightly}
 use Rattle.artiq_sim.specs.declared.answer.Answer.{Answer}
 use Rattle.artiq_sim.specs.declared.answer.Answer.TheVariants.{Due, Refused}
 use Rattle.artiq_sim.specs.declared.command.Command.{Command}
-use Rattle.artiq_sim.specs.declared.command.Command.TheVariants.{Sim, Check}
+use Rattle.artiq_sim.specs.declared.command.Command.TheVariants.{Sim, Check, Compile}
 use Rattle.artiq_sim.specs.declared.step.Step.{Step}
 use Rattle.artiq_sim.specs.Straight.{wrong_line}
 use Rattle.kern_expression_types.specs.declared.fault.TypeEnd.{TypeEnd}
@@ -67,11 +67,13 @@ report_answers program core how cursor (Err e) kernel straight is_run r = tt
 text_of : (command : Command) (text : Bytes) (program : ProgramTree) → IsTextFor command text program → IsTextOf text program
 text_of Sim text program taken = taken.is_text
 text_of Check text program taken = taken.is_text
+text_of Compile text program taken = taken.is_text
 
 -- and that is an accepted kernel
 kernel_of : (command : Command) (text : Bytes) (program : ProgramTree) → IsTextFor command text program → IsKernel program
 kernel_of Sim text program taken = taken.kernel
 kernel_of Check text program taken = taken.kernel
+kernel_of Compile text program taken = taken.kernel
 
 -- a program that is typed has no fault
 typed_or_fault : (program : ProgramTree) (line : ℕ) (kind : TypeKind) → IsTyped program → program_verdict program ≡ V.fault line kind → ⊥
@@ -122,14 +124,16 @@ only_program text tokens tree program lexed only is_text =
     let same = same_tokens text tokens is_text.tokens lexed is_text.lexed in
     only program (subst (λ ts. HasTree (lexemes_of text ts) program) (sym same) is_text.parsed)
 
--- a program that `sim` runs or `check` prints
+-- a program that `sim` runs, or that `check` prints and `compile` compiles
 abbrev IsProgramFor : Command → ProgramTree → Type 0
 IsProgramFor Sim program = IsKernel program × (wrong_line program ≡ None)
 IsProgramFor Check program = IsKernel program
+IsProgramFor Compile program = IsKernel program
 
 kernel_for : (command : Command) (program : ProgramTree) → IsProgramFor command program → IsKernel program
 kernel_for Sim program taken = taken.0
 kernel_for Check program taken = taken
+kernel_for Compile program taken = taken
 
 -- a kernel isn't refused for its form where the command takes it
 straight_or_wrong : (command : Command) (program : ProgramTree) (line : ℕ) → IsProgramFor command program → command ≡ Sim → wrong_line program ≡ Some line → ⊥
@@ -137,6 +141,7 @@ straight_or_wrong Sim program line taken is first =
     let clash : None ≡ Some line = sym taken.1 ∙ first in
     absurd (cc)
 straight_or_wrong Check program line taken is first = absurd (cc)
+straight_or_wrong Compile program line taken is first = absurd (cc)
 
 -- a program that a command takes isn't refused
 not_program_refused : (command : Command) (program : ProgramTree) (told : Bytes) → IsProgramFor command program → IsProgramRefused command program told → ⊥
@@ -150,6 +155,7 @@ not_program_refused command program told taken (wrong is_sim kernel line first i
 program_for : (command : Command) (text : Bytes) (program : ProgramTree) → IsTextFor command text program → IsProgramFor command program
 program_for Sim text program taken = (taken.kernel, taken.straight)
 program_for Check text program taken = taken.kernel
+program_for Compile text program taken = taken.kernel
 
 -- what refuses a text refuses its only program
 refused_program : (command : Command) (text : Bytes) (tokens : List Token) (tree : ProgramTree) → HasTokens text tokens → ((other : ProgramTree) → HasTree (lexemes_of text tokens) other → tree ≡ other) → IsTextOf text tree
@@ -187,10 +193,15 @@ due_of_program Check text written tree b is_text r = (
   record { program = tree; is_kernel = record { is_text = is_text; kernel = r.0 }; printed = r.1 },
   ap status_of r.2,
 )
+due_of_program Compile text written tree b is_text r = (
+  record { program = tree; is_kernel = record { is_text = is_text; kernel = r.0 }; image = r.1 },
+  ap status_of r.2,
+)
 
 due_for : (command : Command) (tree : ProgramTree) (written : Bytes) (b : Finish) → IsProgramDue command tree written b → IsProgramFor command tree
 due_for Sim tree written b r = (r.kernel, r.straight)
 due_for Check tree written b r = r.0
+due_for Compile tree written b r = r.0
 
 -- the answer to a text is that to its tree
 pub answer_of_tree : (command : Command) (text : Bytes) (tokens : List Token) (tree : ProgramTree) (answer : Answer) → HasTokens text tokens → HasTree (lexemes_of text tokens) tree → ((other : ProgramTree) → HasTree (lexemes_of text tokens) other → tree ≡ other)

@@ -8,7 +8,7 @@ use Rattle.lab_io.specs.Reading.{IsCountAt}
 use Rattle.artiq_sim.specs.declared.answer.Answer.{Answer}
 use Rattle.artiq_sim.specs.declared.answer.Answer.TheVariants.{Due, Refused}
 use Rattle.artiq_sim.specs.declared.command.Command.{Command}
-use Rattle.artiq_sim.specs.declared.command.Command.TheVariants.{Sim, Check}
+use Rattle.artiq_sim.specs.declared.command.Command.TheVariants.{Sim, Check, Compile}
 use Rattle.artiq_sim.specs.declared.finish.Finish.{Finish}
 use Rattle.artiq_sim.specs.declared.finish.Finish.TheVariants.{Whole, Raised, Unfinished}
 use Rattle.artiq_sim.specs.Forms.{finish_at}
@@ -91,6 +91,7 @@ ends_run Unfinished status is = inr (inr is)
 pub due_ends : (command : Command) (text written : List ℕ) (status : ℕ) → IsDue command text written status → IsEnd command status
 due_ends Sim text written status due = ends_run (finish_at due.core due.how) status due.status
 due_ends Check text written status due = due.1
+due_ends Compile text written status due = due.1
 
 -- an answer that isn't 4 is the status
 pub not_four : (result status : ℕ) → (result ≡ status) ⊎ (result ≡ 4) → (result ≡ 0) ⊎ ((result ≡ 6) ⊎ (result ≡ 7)) → result ≡ status

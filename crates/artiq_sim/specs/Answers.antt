@@ -7,12 +7,12 @@ use Rattle.rtio_core.specs.Core.{CoreState}
 use Rattle.kern_syntax.specs.Tree.{ProgramTree}
 use Rattle.kern_syntax.specs.Print.{program_text}
 use Rattle.artiq_sim.specs.declared.command.Command.{Command}
-use Rattle.artiq_sim.specs.declared.command.Command.TheVariants.{Sim, Check}
+use Rattle.artiq_sim.specs.declared.command.Command.TheVariants.{Sim, Check, Compile}
 use Rattle.artiq_sim.specs.Texts.{IsKernelText, IsStraightText, IsTextFor, IsRefused}
 use Rattle.artiq_sim.specs.Runs.{IsRun}
 use Rattle.artiq_sim.specs.declared.finish.Finish.{Finish}
 use Rattle.artiq_sim.specs.declared.finish.Finish.TheVariants.{Whole, Raised, Unfinished}
-use Rattle.artiq_sim.specs.Forms.{finish_at}
+use Rattle.artiq_sim.specs.Forms.{finish_at, IsImageFor}
 use Rattle.artiq_sim.specs.Report.{report_text}
 use Rattle.artiq_sim.specs.declared.answer.Answer.{Answer}
 use Rattle.artiq_sim.specs.declared.answer.Answer.TheVariants.{Due, Refused}
@@ -51,15 +51,24 @@ pub record PrintsText (text written : List ℕ) : Type 0 where
   pub is_kernel : IsKernelText text program
   pub printed : written ≡ program_text program
 
--- the bytes and the status that a command owes a text: the report of a run and its status, or the canonical text and 0
+-- the bytes are the image of code that does what the program means that the text has
+pub record CompilesText (text written : List ℕ) : Type 0 where
+  pub program : ProgramTree
+  pub is_kernel : IsKernelText text program
+  pub image : IsImageFor program written
+
+-- the bytes and the status that a command owes a text: the report of a run and its status, or the canonical text or the
+-- image and 0
 abbrev pub IsDue : Command → (text written : List ℕ) → (status : ℕ) → Type 0
 IsDue Sim text written status = ReportsText text written status
 IsDue Check text written status = PrintsText text written × (status ≡ 0)
+IsDue Compile text written status = CompilesText text written × (status ≡ 0)
 
 -- the statuses of a command that nothing stops
 abbrev pub IsEnd : Command → (status : ℕ) → Type 0
 IsEnd Sim status = (status ≡ 0) ⊎ ((status ≡ 6) ⊎ (status ≡ 7))
 IsEnd Check status = status ≡ 0
+IsEnd Compile status = status ≡ 0
 
 -- the source was read to its end, and what is held has grown by what the command that was asked owes its text
 pub record GivesDue (asked : Option Command) (old new held_old held_new : Option (List ℕ)) (status : ℕ) : Type 0 where

@@ -19,7 +19,10 @@ use Rattle.kern_expression_types.specs.declared.fault.TypeKind.{TypeKind}
 use Rattle.kern_types.specs.Programs.{IsTyped, program_verdict}
 use Rattle.kern_expression_types.specs.Verdicts as V
 use Rattle.artiq_sim.specs.declared.command.Command.{Command}
-use Rattle.artiq_sim.specs.declared.command.Command.TheVariants.{Sim, Check}
+use Rattle.artiq_sim.specs.declared.command.Command.TheVariants.{Sim, Check, Compile}
+use Rattle.core_isa.specs.declared.code.Code.{Code}
+use Rattle.core_image.specs.Spelling.{image_of}
+use Rattle.code_law.specs.DoesAs.{DoesAs}
 use Rattle.artiq_sim.specs.Texts.{IsKernel, max_nodes, type_line, code_line, form_line}
 use Rattle.artiq_sim.specs.Runs.{IsRun}
 use Rattle.artiq_sim.specs.Steps.{AreSteps, HasSteps}
@@ -74,10 +77,17 @@ pub record IsProgramReport (program : ProgramTree) (written : List ℕ) (finish 
   pub report : written ≡ report_text core how cursor
   pub finished : finish ≡ finish_at core how
 
+-- the image of code that does what the program means
+pub record IsImageFor (program : ProgramTree) (written : List ℕ) : Type 0 where
+  pub code : Code
+  pub does : DoesAs program code
+  pub image : written ≡ image_of code
+
 -- what a command owes a program
 abbrev pub IsProgramDue : Command → ProgramTree → List ℕ → Finish → Type 0
 IsProgramDue Sim program written finish = IsProgramReport program written finish
 IsProgramDue Check program written finish = IsKernel program × (written ≡ program_text program) × (finish ≡ Whole)
+IsProgramDue Compile program written finish = IsKernel program × IsImageFor program written × (finish ≡ Whole)
 
 -- the answer of a command to a program
 abbrev pub IsAnswerToProgram : Command → ProgramTree → Answer → Type 0

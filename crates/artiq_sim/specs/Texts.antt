@@ -14,7 +14,7 @@ use Rattle.kern_expression_types.specs.declared.fault.TypeKind.TheVariants as T
 use Rattle.kern_types.specs.Programs.{IsTyped, program_verdict}
 use Rattle.kern_expression_types.specs.Verdicts as V
 use Rattle.artiq_sim.specs.declared.command.Command.{Command}
-use Rattle.artiq_sim.specs.declared.command.Command.TheVariants.{Sim, Check}
+use Rattle.artiq_sim.specs.declared.command.Command.TheVariants.{Sim, Check, Compile}
 use Rattle.artiq_sim.specs.Straight.{wrong_line}
 
 -- the bytes have tokens, and these have the program as their tree
@@ -47,6 +47,7 @@ pub record IsStraightText (text : Bytes) (program : ProgramTree) : Type 0 where
 abbrev pub IsTextFor : Command → (text : Bytes) → (program : ProgramTree) → Type 0
 IsTextFor Sim text program = IsStraightText text program
 IsTextFor Check text program = IsKernelText text program
+IsTextFor Compile text program = IsKernelText text program
 
 -- the name of a kind of fault
 abbrev pub kind_text : LexKind → Bytes

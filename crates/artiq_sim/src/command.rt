@@ -9,6 +9,8 @@ pub enum Command {
     Sim,
     /// Writes a kernel's text in its canonical form.
     Check,
+    /// Writes the image of a kernel's code.
+    Compile,
 }
 
 /// The command that the words are: its name alone, and else they aren't accepted.
@@ -28,6 +30,7 @@ fn command_named(word: &str) -> Option<Command>
     match word {
         "sim" => Some(Command::Sim),
         "check" => Some(Command::Check),
+        "compile" => Some(Command::Compile),
         _ => None,
     }
 }

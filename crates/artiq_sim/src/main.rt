@@ -1,5 +1,5 @@
-//! `artiq_sim`: runs the text of a kernel on the simulated core and reports its outputs, or checks it and writes its
-//! canonical text.
+//! `artiq_sim`: runs the text of a kernel on the simulated core and reports its outputs, checks it and writes its
+//! canonical text, or compiles it and writes the image of its code.
 #![tactic(auto)]
 
 mod answer;

@@ -15,7 +15,8 @@ use lab_io::{ReadEnd, Sink, Source, read_all, write_all};
 use std::alloc::Global;
 
 /// Answers the words. Under `sim` it reads a straight text, runs it, and writes the report of its outputs; under `check`
-/// it reads any kernel's text and writes its canonical text.
+/// it reads any kernel's text and writes its canonical text; under
+/// `compile` it reads any kernel's text and writes the image of its code, which does what the text means.
 pub fn sim_top<S: Source, K: Sink, E: Sink>(
     alloc: Global,
     words: &[String],
@@ -43,7 +44,7 @@ pub fn sim_top<S: Source, K: Sink, E: Sink>(
     // Memory was refused.
     ensures memory { result ≡ 5 → OnlyTells (K.held out.old) (K.held out.new) (E.held err.old) (E.held err.new) (refusal_line memory) }
     // All that the source held is a text that the command takes, and out has what is due: under `sim` the report of its
-    // run, under `check` its canonical text.
+    // run, under `check` its canonical text, under `compile` the image of code that does what its program means.
     ensures due { (result ≡ 0) ⊎ ((result ≡ 6) ⊎ (result ≡ 7)) → GivesDue (command_of (map string_bytes words.now)) (S.left source.old) (S.left source.new) (K.held out.old) (K.held out.new) result
         × (E.held err.new ≡ E.held err.old) }
     // A sink failed, and has a part of what was due.

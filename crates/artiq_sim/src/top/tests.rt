@@ -398,6 +398,22 @@ fn check_takes_at_most_16384_nodes(rt: HostRuntime) -> Result<(), Fail> {
     expect_refused(&rt, rt.alloc(), "check", &text, "code 16385\n")
 }
 
+// The image of one function that only returns: `pass` has no code.
+#[test]
+fn compile_takes_at_most_16384_nodes(rt: HostRuntime) -> Result<(), Fail> {
+    let text = lines_of_pass(rt.alloc(), 16383)?;
+    let left = of_text(rt.alloc(), "compile", &text)?;
+    assert_eq!(rt; left.status, 0);
+    let image: [u8; 26] = [
+        0x4b, 0x49, 0x4d, 0x31, 1, 0, 0, 0, 0, 0, 1, 0, 0, 0, // one function, main, no names, one line
+        0, 0, 0, 0, 0, 1, 0, 2, // it begins at 0, has no parameter, one slot, no value, and is plain
+        0x1d, 0, 0, 0, // Return
+    ];
+    assert_eq!(rt; left.out.as_slice(), image.as_slice());
+    let text = lines_of_pass(rt.alloc(), 16384)?;
+    expect_refused(&rt, rt.alloc(), "compile", &text, "code 16385\n")
+}
+
 #[test]
 fn types_are_asked_before_nodes(rt: HostRuntime) -> Result<(), Fail> {
     let mut text = lines_of_pass(rt.alloc(), 16384)?;
