@@ -1,6 +1,6 @@
 -- The least number that passes a test, and histories with one entry more.
 use Rattle.std.proofs.Common.{◌≡◌, ℕ, ◌+◌, ◌<◌, ◌≤◌, zero, suc, Bool, true, false, List, [], ◌∷◌, ◌++◌, refl, ap, sym, ◌∙◌, arith, subst, append_assoc, append-nil}
-use Rattle.std.specs.Prelude.{◌⊎◌, Result, Ok, Err, OnOk}
+use Rattle.std.specs.Prelude.{◌⊎◌, Result, Ok, Err, OnErr, OnOk}
 use Rattle.std.specs.Result.{is_err}
 use Rattle.std.proofs.Common.{inl, inr}
 use Rattle.rtio_core.specs.declared.data.Config.{Config}
@@ -60,3 +60,8 @@ pushed-onto pushed reserved old x is same = is ∙ ap (λ xs. xs ++ x ∷ []) sa
 pub from-ok : {X E : Type 0} (r : Result X E) (P : Type 0) → is_err r ≡ false → OnOk r P → P
 from-ok (Ok x) P fine h = h
 from-ok (Err e) P fine h = absurd (cc)
+
+-- and what holds where it fails
+pub from-err : {X E : Type 0} (r : Result X E) (P : Type 0) → is_err r ≡ true → OnErr r P → P
+from-err (Ok x) P fails h = absurd (cc)
+from-err (Err e) P fails h = h

@@ -101,6 +101,27 @@ entry_keeps a entries entry outputs inputs store session cursor left h n is =
       limit = rw is n.limit_is;
     }
 
+-- room for entries changes nothing
+pub room_keeps : (a : Inside) (entries : Vec Entry Global) (outputs : Outputs) → IsCoreInside a → entries.items ≡ a.entries.items → outputs ≡ a.outputs → IsCoreInside (record a { entries = entries; outputs = outputs })
+room_keeps a entries outputs h is same =
+    record {
+      core = record {
+        config = h.core.config;
+        lawful = rw is h.core.lawful;
+        fitting = rw is h.core.fitting;
+        reached = rw is h.core.reached;
+        bounded = rw is h.core.bounded;
+      };
+      pending = rw is h.pending;
+      formed = h.formed;
+      played = rw is (subst (λ (o : Outputs). IsPlayed o a.config.holds a.config.lanes a.config.depth (lane_steps a.entries.items) a.count) (sym same) h.played);
+      inputs = rw is h.inputs;
+      store = rw is h.store;
+      session = rw is h.session;
+      cursor = rw is h.cursor;
+      limit = rw is h.limit;
+    }
+
 -- inputs that stand for the history stand for it with no step more
 pub inputs-quiet : (a : Inside) → IsCoreInside a → InputsStandFor a.inputs a.config.edges (outputs_at a.config a.entries.items a.count) (input_steps a.entries.items ++ []) a.count
 inputs-quiet a h = rw append-nil h.inputs
