@@ -27,7 +27,7 @@ import tempfile
 ROOT = pathlib.Path(__file__).resolve().parent.parent
 FENCE = re.compile(r"^```(\w*) ?(.*)\n((?:.*\n)*?)```$", re.M)
 GIVES = re.compile(r"`([^`\n]+)` (?:gives|is told as) `((?:lex|syntax|type|code|form) [^`\n]+)`")
-COMMAND = re.compile(r"^    ((?:bin/artiq_sim (?:sim|check)|head|python3 docs/(?!check_documents))[^#\n]*)", re.M)
+COMMAND = re.compile(r"^    ((?:bin/artiq_sim (?:sim|check|compile)|head|python3 docs/(?!check_documents))[^#\n]*)", re.M)
 PATH = re.compile(r"`((?:docs|crates|examples|bench|bin)/[\w./-]+)`")
 
 
