@@ -1,0 +1,2 @@
+pub mod RunnableStatements
+pub mod Turns
