@@ -1,5 +1,5 @@
 -- Cycles of which no event is held.
-use Rattle.std.proofs.Common.{◌≡◌, ◌<◌, ◌≤◌, ◌+◌, ℕ, zero, suc, Bool, true, false, List, [], ◌∷◌, ◌++◌, get_or, length, map, set, refl, ap, sym, subst, ◌∙◌, arith, cond}
+use Rattle.std.proofs.Common.{◌≡◌, ◌<◌, ◌≤◌, ℕ, zero, suc, Bool, true, false, List, [], ◌∷◌, ◌++◌, get_or, length, map, set, refl, ap, sym, ◌∙◌, arith}
 use Rattle.std.specs.Prelude.{Option, Some, None, filter, flat_map, nat_le, not, ◌==◌, ◌&&◌}
 use Rattle.std.specs.List.{list_all}
 use Rattle.std.specs.Option.{unwrap_or}
@@ -10,7 +10,7 @@ use Rattle.rtio_types.specs.declared.event.Event.{Event}
 use Rattle.rtio_types.specs.Time.{cycle_of}
 use Rattle.sed_lanes.specs.Calls.{all_held_from, held_at, without}
 use Rattle.sed_lanes.specs.Lanes.{LaneState, LanesState, empty_lane, held_events, with_accepted}
-use Rattle.sed_lanes.specs.Next.{least_of, next_cycle}
+use Rattle.sed_lanes.specs.Next.{next_cycle}
 use Rattle.sed_lanes.proofs.NextCycles.{least-below, none-least}
 
 -- all are of a cycle or later ones
