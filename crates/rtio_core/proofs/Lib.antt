@@ -19,6 +19,7 @@ mod AskedEdges
 mod Edges
 pub mod OutputsDecided
 mod Tops
+mod Leaping
 mod Reasons
 mod Emptied
 mod Stored

@@ -12,4 +12,5 @@ pub mod Lines
 pub mod LogOrder
 pub mod Played
 pub mod Fields
+pub mod Leaps
 pub mod Errors

@@ -2,6 +2,7 @@
 
 mod asking;
 mod edges;
+mod leaping;
 mod recordings;
 mod ticking;
 
