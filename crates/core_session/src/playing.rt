@@ -103,13 +103,16 @@ fn next_stop(alloc: Global, core: &Core, cpu: &mut Cpu<'_>) -> Result<Stop, Allo
     }
 }
 
-// Reads the number in a reply, which is one of 64 bits.
+// Reads the number in a reply, or the length of its recording, which is one of 64 bits.
 fn known(reply: &Reply)
     ensures { HasNumber reply.now }
 {
     match reply {
         Reply::Time(number) | Reply::Stamp(number) | Reply::Handle(number) => {
             let _number = *number;
+        }
+        Reply::Trace(recording) => {
+            let _length = recording.length;
         }
         _ => {}
     }
