@@ -1,5 +1,5 @@
 -- In lockstep each request is asked where the core has stopped.
-use Rattle.std.proofs.Common.{◌≡◌, ℕ, zero, suc, ◌+◌, ◌≤◌, List, [], ◌∷◌, ◌++◌, Bool, true, false, Some, None, refl, sym, ap, subst, ◌∙◌, append_assoc, append-nil, arith}
+use Rattle.std.proofs.Common.{◌≡◌, ℕ, zero, suc, ◌+◌, ◌≤◌, List, [], ◌∷◌, ◌++◌, Bool, true, false, Some, None, refl, sym, ap, subst, ◌∙◌, append_assoc, arith}
 use Rattle.std.specs.Prelude.{ℤ, Option, option_map, ◌==◌, nat_lt, if◌then◌else◌, is_some}
 use Rattle.std.proofs.lemmas.Bool.{eqb-true, false≢true}
 use Rattle.std.proofs.lemmas.List.Sums.{fold-append}
@@ -16,10 +16,10 @@ use Rattle.rtio_core.specs.declared.data.Config.{Config}
 use Rattle.rtio_core.specs.declared.data.Entry.{Entry}
 use Rattle.rtio_core.specs.declared.data.StartOf.{StartOf}
 use Rattle.rtio_core.specs.Entries.{act_at, last_at, last_cursor, open_session}
-use Rattle.rtio_core.specs.Reply.{is_decided, reply_to}
+use Rattle.rtio_core.specs.Reply.{reply_to}
 use Rattle.rtio_core.specs.Top.{top}
 use Rattle.rtio_core.specs.Core.{CoreState, core_top}
-use Rattle.rtio_core.specs.Calls.{started, answered, ended}
+use Rattle.rtio_core.specs.Calls.{answered, ended}
 use Rattle.run_schedule.specs.declared.schedule.Step.TheVariants.{Cpu, Tick}
 use Rattle.run_schedule.specs.Schedules.{ScheduleState, Lockstep}
 use Rattle.core_session.specs.Scripts.{Next, Asks, Ends}

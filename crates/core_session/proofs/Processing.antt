@@ -1,7 +1,7 @@
 -- The steps of the processor in a session.
-use Rattle.std.proofs.Common.{◌≡◌, ◌≢◌, ℕ, suc, zero, ◌+◌, ◌≤◌, ◌<◌, List, [], ◌∷◌, ◌++◌, length, Bool, true, false, Some, None, IsTrue, inl, inr, refl, sym, ap, subst, ◌∙◌, length-append, append-nil, arith}
+use Rattle.std.proofs.Common.{◌≡◌, ◌≢◌, ℕ, ◌+◌, ◌≤◌, ◌<◌, List, [], ◌∷◌, ◌++◌, length, Bool, true, false, Some, None, inl, inr, refl, sym, ap, subst, ◌∙◌, length-append, append-nil, arith}
 use Rattle.std.proofs.lemmas.List.{length-map, map-append}
-use Rattle.std.specs.Prelude.{ℤ, Option, ◌⊎◌, ◌==◌, nat_lt, if◌then◌else◌, is_some}
+use Rattle.std.specs.Prelude.{ℤ, Option, ◌==◌, if◌then◌else◌, is_some}
 use Rattle.std.proofs.lemmas.Bool.{lt-ltb, eq-eqb, ne_eqb}
 use Rattle.rtio_types.specs.declared.outcome.Outcome.{Outcome}
 use Rattle.rtio_types.specs.declared.outcome.Outcome.TheVariants as outcome
@@ -10,31 +10,30 @@ use Rattle.rtio_types.specs.declared.request.Reply.{Reply}
 use Rattle.rtio_types.specs.declared.request.Waiting.{Waiting}
 use Rattle.rtio_types.specs.declared.request.Waiting.TheVariants as waiting
 use Rattle.rtio_types.specs.Requests.{request_waiting}
-use Rattle.rtio_core.specs.declared.data.Act.TheVariants.{Start, Asked, End}
+use Rattle.rtio_core.specs.declared.data.Act.TheVariants.{End}
 use Rattle.rtio_core.specs.declared.data.Config.{Config}
 use Rattle.rtio_core.specs.declared.data.Entry.{Entry}
 use Rattle.rtio_core.specs.declared.data.Ask.TheVariants as ask
-use Rattle.rtio_core.specs.declared.data.Tick.{Tick as Ticking}
 use Rattle.rtio_core.specs.declared.data.Tick.TheVariants as tick
 use Rattle.rtio_core.specs.Reply.{is_decided, reply_to}
 use Rattle.rtio_core.specs.Entries.{open_session}
 use Rattle.rtio_core.specs.Top.{top}
 use Rattle.rtio_core.specs.Lawful.{AreFitting, IsOpenFor}
 use Rattle.rtio_core.specs.Core.{CoreState, IsCore, core_top}
-use Rattle.rtio_core.specs.Calls.{AnswersAsk, AnswersTick, NoOtherWaits, MayEnd, answered, ended}
+use Rattle.rtio_core.specs.Calls.{AnswersAsk, AnswersTick, NoOtherWaits, answered, ended}
 use Rattle.core_isa.specs.WellAsked.{RepliesFit}
 use Rattle.core_isa.specs.Machine as X
 use Rattle.core_isa.specs.Machine.{MachineEnd}
 use Rattle.core_cpu.specs.Moments.{Moment, is_asking, outcome_of}
-use Rattle.core_cpu.specs.Standing.{Start as Beginning, Stands, AsksNext, HasEnded}
+use Rattle.core_cpu.specs.Standing.{Start as Beginning, Stands, AsksNext}
 use Rattle.core_cpu.specs.declared.stop.Stop.{Stop}
 use Rattle.core_cpu.specs.declared.stop.Stop.TheVariants as stop
 use Rattle.run_schedule.specs.Schedules.{ScheduleState}
-use Rattle.core_session.specs.Scripts.{Next, Asks, Ends, HasNumber, HaveNumbers, IsScriptOf}
+use Rattle.core_session.specs.Scripts.{Next, HasNumber, HaveNumbers, IsScriptOf}
 use Rattle.core_session.specs.Sessions.{Answered, account_of, requests_of, replies_of, entry_of, asked_entry, EndsAs}
-use Rattle.core_session.specs.Standing.{Session, history_of, IsOpen, IsAtPoint, HasOpen, StopsSo, HasClosed, IsNearer, LeadsTo, IsStepBy, Processes, playing}
-use Rattle.core_session.specs.Timed.{Playing, processed, replied, waits, waits_for, ticked, as_waiting}
-use Rattle.core_session.proofs.Histories.{has-open, fits-history, history-push, numbers-push, replies-history}
+use Rattle.core_session.specs.Standing.{Session, history_of, IsOpen, IsAtPoint, HasOpen, StopsSo, Processes, playing}
+use Rattle.core_session.specs.Timed.{processed, replied, waits, waits_for, ticked, as_waiting}
+use Rattle.core_session.proofs.Histories.{has-open, fits-history, history-push, numbers-push}
 use Rattle.core_session.proofs.Scripted.{ran-asking, ran-ended, runs-asking, runs-ended, script-asks, script-ends}
 use Rattle.core_isa.proofs.UnitsTaken.{requests_take_units}
 use Rattle.core_session.proofs.AtTop.{DecidedStays, never-held}
