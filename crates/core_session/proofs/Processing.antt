@@ -29,7 +29,7 @@ use Rattle.core_cpu.specs.Standing.{Start as Beginning, Stands, AsksNext}
 use Rattle.core_cpu.specs.declared.stop.Stop.{Stop}
 use Rattle.core_cpu.specs.declared.stop.Stop.TheVariants as stop
 use Rattle.run_schedule.specs.Schedules.{ScheduleState}
-use Rattle.core_session.specs.Scripts.{Next, HasNumber, HaveNumbers, IsScriptOf}
+use Rattle.core_session.specs.Scripts.{Next, HasNumber, HaveNumbers, TellsRuns}
 use Rattle.core_session.specs.Sessions.{Answered, account_of, requests_of, replies_of, entry_of, asked_entry, EndsAs}
 use Rattle.core_session.specs.Standing.{Session, history_of, IsOpen, IsAtPoint, HasOpen, StopsSo, Processes, playing}
 use Rattle.core_session.specs.Timed.{processed, replied, waits, waits_for, ticked, as_waiting}
@@ -165,7 +165,7 @@ module _ (old mid new : CoreState) (before now : Moment) (request : Request) (un
   mid-waits = mid-is ∙ ap (λ (v : Option Waiting). record old { waiting = v }) (sym (waits-as w request answers.2))
 
   -- the step that the script makes comes to this
-  goes : (s : Session) (asked : List Answered) → IsOpen s asked old before → (next : List Reply → Next) → IsScriptOf s.code s.start next → (schedule : ScheduleState)
+  goes : (s : Session) (asked : List Answered) → IsOpen s asked old before → (next : List Reply → Next) → TellsRuns s.code s.start next → (schedule : ScheduleState)
       → processed (playing old schedule false) 0 (next (replies_of asked)) ≡ waits (playing old schedule false) 0 request now.machine.cursor
   goes s asked open' next script schedule =
       let there = stops s asked open' in
