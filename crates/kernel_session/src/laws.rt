@@ -1,0 +1,21 @@
+// What holds of every session of a kernel.
+
+ghost use Rattle.kern_syntax.specs.Tree.{ProgramTree};
+ghost use Rattle.core_isa.specs.declared.code.Code.{Code};
+ghost use Rattle.rtio_core.specs.declared.data.Config.{Config};
+ghost use Rattle.code_law.specs.DoesAs.{DoesAs};
+ghost use Rattle.kernel_session.specs.Counted.{OutputsAndResetsCount};
+ghost use Rattle.kernel_session.specs.Laws.{PlaysWhatItGets};
+
+/// Where a function of a compiled kernel asks for a recording and gets it, its next requests are the recording's outputs in
+/// their order, each moved by the cursor at which it asked. They stop before the last one only at one that underflows, or where
+/// no unit or no reply is left. So it is in a session that is still open, too.
+pub fn recordings_are_played_where_they_were_asked_for()
+    ensures { (program : ProgramTree) (code : Code) → DoesAs program code → PlaysWhatItGets program }
+{}
+
+/// Outputs and resets alone count for verdicts, outputs and log. So outputs that were played have those of outputs that the
+/// kernel asked for one by one at the same counters.
+pub fn outputs_and_resets_count()
+    ensures { (config : Config) → OutputsAndResetsCount config }
+{}
