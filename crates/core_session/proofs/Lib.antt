@@ -9,3 +9,4 @@ mod Whole
 mod LockstepLaw
 mod Existing
 mod Rows
+mod Draining
