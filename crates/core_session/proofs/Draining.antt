@@ -1,5 +1,5 @@
 -- A core that leaps as far as it may.
-use Rattle.std.proofs.Common.{◌≡◌, ◌+◌, ◌-◌, ◌^◌, ℕ, ap, ◌∙◌, arith}
+use Rattle.std.proofs.Common.{◌≡◌, ◌+◌, ◌-◌, ℕ, ap, ◌∙◌, arith}
 use Rattle.std.specs.Prelude.{min}
 use Rattle.rtio_core.proofs.Settings.{horizon-most}
 use Rattle.rtio_core.specs.Core.{CoreState, IsCore, core_top}

@@ -228,7 +228,7 @@ module _ (old mid new : CoreState) (before now : Moment) (request : Request) (un
   -- below it the core ticks once
   pub waiting-processes : mid.counter ≢ mid.config.horizon → mid.counter < core_top mid → new ≡ record mid { counter = mid.counter + 1 } → Processes old new before now None
   waiting-processes near below is = record {
-    leads = λ s asked open'. (asked, waits-on s asked open', inr (ap (λ (c : CoreState). c.history) whole, ap (λ (c : CoreState). c.counter) whole, room));
+    leads = λ s asked open'. (asked, waits-on s asked open', inr (ap (λ (c : CoreState). c.history) whole, later, room));
     step = λ s asked open' next script schedule.
         goes s asked open' next script schedule
         ∙ by-horizon schedule false not-there
@@ -239,6 +239,9 @@ module _ (old mid new : CoreState) (before now : Moment) (request : Request) (un
     where
       whole : new ≡ record old { waiting = Some w; counter = old.counter + 1 }
       whole = is ∙ ap (λ (c : CoreState). record c { counter = c.counter + 1 }) mid-is
+
+      later : old.counter < new.counter
+      later = let up = ap (λ (c : CoreState). c.counter) whole in omega (arith, up)
 
       not-there : (old.counter == old.config.horizon) ≡ false
       not-there = ne_eqb old.counter old.config.horizon (λ same. near (subst (λ (c : CoreState). c.counter ≡ c.config.horizon) (sym mid-is) same))

@@ -7,7 +7,7 @@ ghost use Rattle.rtio_types.specs.Requests.{is_well_formed};
 ghost use Rattle.core_cpu.specs.declared.stop.Stop.TheVariants as stop;
 ghost use Rattle.core_session.specs.Scripts.{HasNumber, IsScriptOf, Next};
 ghost use Rattle.core_session.specs.Sessions.{Answered};
-ghost use Rattle.core_session.specs.Standing.{Session, HasOpen, IsOpen, IsSameButWaiting, HasBegun, Plays, Processes, StopsSo, Turns, IsLeftAfter};
+ghost use Rattle.core_session.specs.Standing.{Session, HasOpen, IsOpen, IsSameButWaiting, HasBegun, Plays, Processes, StopsSo, Turns, IsLeftAfter, ticks_in_a_row};
 
 use core_cpu::{Cpu, Stop};
 use rtio_core::{Ask, Core, Tick, what_is_decided_stays_decided};
@@ -33,7 +33,7 @@ pub fn play(
     }
 }
 
-// The step that the schedule gives; it may end the session.
+// The step that the schedule gives; it may end the session. In lockstep all ticks up to where the core is stopped are one leap.
 fn turn(
     alloc: Global,
     core: &mut Core,
@@ -48,10 +48,17 @@ fn turn(
     match schedule.next(core.stopped()) {
         Step::Cpu => process(alloc, core, cpu),
         Step::Tick => {
-            core.tick();
+            core.leap(ticks_in_a_row(schedule));
             Ok(None)
         }
     }
+}
+
+// As many ticks as the schedule gives at least, once it gives one.
+fn ticks_in_a_row(schedule: &Schedule) -> u64
+    ensures { result ≡ ticks_in_a_row schedule.now }
+{
+    if schedule.is_lockstep() { u64::MAX } else { 1 }
 }
 
 // A step of the processor: it asks its next request, or the one that waits, or ends the session.

@@ -2,7 +2,7 @@
 
 ghost use Rattle.std.specs.Prelude.{◌≡◌, ◌==◌, ◌||◌, ◌+◌, nat_lt, if◌then◌else◌, ◌≤◌, ◌<◌, ◌↔◌, IsTrue, IsSome, IfSome, map, length, [], ◌∷◌};
 ghost use Rattle.std.specs.List.{list_all};
-ghost use Rattle.run_schedule.specs.Schedules.{ScheduleState, Lockstep, Letters, Mix, ComesNearer, after_step, is_word, letter_step, mix_step, mixed, step_of, ticks_after, ticks_before_cpu};
+ghost use Rattle.run_schedule.specs.Schedules.{ScheduleState, Lockstep, Letters, Mix, ComesNearer, after_step, is_lockstep, is_word, letter_step, mix_step, mixed, step_of, ticks_after, ticks_before_cpu};
 
 use arrayvec::ArrayVec;
 use std::marker::Model;
@@ -83,6 +83,16 @@ impl Schedule {
     {
         Schedule {
             kind: Kind::Mix { x, ticks: 0 },
+        }
+    }
+
+    /// Whether the core ticks until it is stopped, before each step of the processor.
+    pub fn is_lockstep(&self) -> bool
+        ensures { result ≡ is_lockstep self.now }
+    {
+        match self.kind {
+            Kind::Lockstep => true,
+            Kind::Letters { .. } | Kind::Mix { .. } => false,
         }
     }
 
