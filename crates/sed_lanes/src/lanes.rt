@@ -1,6 +1,6 @@
 // The lanes of a dispatcher.
 
-ghost use Rattle.std.specs.Prelude.{◌≡◌, ◌≢◌, ◌≤◌, ◌<◌, ◌+◌, ℕ, [], ◌∷◌, ◌++◌, List, IfOk, IsTrue, Some, false, length, pos, true};
+ghost use Rattle.std.specs.Prelude.{◌≡◌, ◌≢◌, ◌≤◌, ◌<◌, ◌+◌, ℕ, [], ◌∷◌, ◌++◌, List, IfOk, IsTrue, Some, false, is_some, length, pos, true};
 ghost use Rattle.rtio_types.specs.Time.{cycle_of};
 ghost use Rattle.sed_lanes.specs.Calls.{Answers, LanesStandFor, after_verdict, all_held_after, all_held_from, held_at, is_new_number, wait_of, without};
 ghost use Rattle.sed_lanes.specs.Heads.{by_number};
@@ -154,19 +154,26 @@ impl Lanes {
         next
     }
 
+    /// Whether an event has to wait at this counter of cycles: the verdict on it doesn't stand, for want of room in the lanes
+    /// that it may enter.
+    pub fn waits(&self, counter: u64, event: &Event) -> bool
+        ensures { result ≡ is_some (wait_of self.now event.now (verdict self.now event.now counter)) }
+    {
+        let current = self.current;
+        let next = self.next();
+        let late = cycle_of(event) <= counter;
+        if late || (!self.is_full(current) && self.may_enter(current, event)) {
+            return false;
+        }
+        self.may_enter(next, event) && self.is_full(next)
+    }
+
     /// Until when an event has to wait at this counter of cycles: the least cycle that frees a lane which it may enter.
     /// None where the verdict on it stands at the counter.
     pub fn wait(&self, counter: u64, event: &Event) -> Option<u64>
         ensures { result ≡ wait_of self.now event.now (verdict self.now event.now counter) }
     {
-        let current = self.current;
-        let next = self.next();
-        let late = cycle_of(event) <= counter;
-        let enters = self.may_enter(current, event);
-        if late || (!self.is_full(current) && enters) {
-            return None;
-        }
-        if self.may_enter(next, event) && self.is_full(next) {
+        if self.waits(counter, event) {
             return Some(self.until(event));
         }
         None
