@@ -67,7 +67,7 @@ impl Core {
         ensures { result ≡ not (is_decided self.now.config self.now.history (request_waiting waiting) self.now.counter) }
     {
         match waiting {
-            Waiting::Out(event) => self.outputs.lanes.wait(self.count, &event).is_some(),
+            Waiting::Out(event) => self.outputs.lanes.waits(self.count, &event),
             Waiting::Wait { until } => reads(self.count) < until,
             Waiting::Edge { channel, up_to } => !self.inputs.is_decided(self.count, channel, up_to),
         }

@@ -1,5 +1,5 @@
 use Rattle.std.proofs.Common.{ap, sym, ◌∙◌, rules, SFits, w64}
-use Rattle.std.specs.Prelude.{is_some, not, Option, ℕ}
+use Rattle.std.specs.Prelude.{not}
 use Rattle.std.proofs.lemmas.Int.{to_z-of_z}
 use Rattle.rtio_types.specs.declared.request.Waiting.{Waiting}
 use Rattle.rtio_types.specs.Requests.{request_waiting}
@@ -9,7 +9,7 @@ use Rattle.rtio_core.proofs.one_core.Core.is_undecided.Goals as goal
 
 pub returns-in-Out : goal.returns-in-Out
 returns-in-Out c =
-    output-undecided c.self.inside c.args.self.now c.in-Out.event c.is_some.result c.self.view_is c.self.invariant (c.is_some.ensures ∙ ap (λ (o : Option ℕ). is_some o) c.wait.ensures)
+    output-undecided c.self.inside c.args.self.now c.in-Out.event c.waits.result c.self.view_is c.self.invariant c.waits.ensures
     ∙ ap (λ (w : Waiting). not (is_decided c.args.self.now.config c.args.self.now.history (request_waiting w) c.args.self.now.counter)) (sym c.in-Out.is)
 
 pub returns-in-Edge : goal.returns-in-Edge
