@@ -20,58 +20,63 @@ fn steps(alloc: Global, schedule: &mut Schedule, held: &str) -> Result<String, F
     Ok(word)
 }
 
+// Words, and how the steps begin that they give.
+const WORDS: &[(&str, &str)] = &[
+    ("c", "cccc"),
+    ("cct", "cctcctcct"),
+    ("tttc", "tttctttct"),
+    ("ct", "ctctct"),
+];
+
+const SIXTY_FOUR: &str = "tttttttttttttttttttttttttttttttttttttttttttttttttttttttttttttttc";
+
+const NO_WORDS: &[&str] = &[
+    "",
+    "t",
+    "tttt",
+    "C",
+    "c t",
+    "cx",
+    "ttttttttttttttttttttttttttttttttttttttttttttttttttttttttttttttttc",
+];
+
+// Numbers, and the steps that their mixes give: the highest bits of the numbers that follow, computed apart from this project.
+const NUMBERS: &[(u64, &str)] = &[
+    (0, "ttcttcttttctttct"),
+    (1, "tcctccctctcccttc"),
+    (7, "tcctttttcctctctt"),
+    (12345, "ttcctcctctcctctt"),
+    (u64::MAX, "ccctcccctccttccc"),
+];
+
 #[test]
 fn a_word_goes_round(rt: HostRuntime) -> Result<(), Fail> {
-    let words = [
-        ("c", "cccc"),
-        ("cct", "cctcctcct"),
-        ("tttc", "tttctttct"),
-        ("ct", "ctctct"),
-    ];
-    for (word, due) in words {
+    for (word, due) in WORDS {
         let Some(mut schedule) = Schedule::letters(word.as_bytes()) else {
             panic!(rt; "{word} is a word");
         };
         // Whether the core is stopped doesn't count.
         let held = "h.h.h.h.h";
         let found = steps(rt.alloc(), &mut schedule, held)?;
-        assert!(rt; found.as_str().starts_with(due), "{word}: {found}");
+        assert!(rt; found.as_str().starts_with(*due), "{word}: {found}");
     }
     Ok(())
 }
 
 #[test]
 fn words_have_1_to_64_letters_with_a_step_of_the_processor(rt: HostRuntime) {
-    let sixty_four = "tttttttttttttttttttttttttttttttttttttttttttttttttttttttttttttttc";
-    assert!(rt; Schedule::letters(sixty_four.as_bytes()).is_some());
-    let others = [
-        "",
-        "t",
-        "tttt",
-        "C",
-        "c t",
-        "cx",
-        "ttttttttttttttttttttttttttttttttttttttttttttttttttttttttttttttttc",
-    ];
-    for word in others {
+    assert!(rt; Schedule::letters(SIXTY_FOUR.as_bytes()).is_some());
+    for word in NO_WORDS {
         assert!(rt; Schedule::letters(word.as_bytes()).is_none(), "{word}");
     }
 }
 
-// The highest bits of the numbers that follow these, computed apart from this project.
 #[test]
 fn a_mix_is_that_of_its_number(rt: HostRuntime) -> Result<(), Fail> {
-    let numbers = [
-        (0, "ttcttcttttctttct"),
-        (1, "tcctccctctcccttc"),
-        (7, "tcctttttcctctctt"),
-        (12345, "ttcctcctctcctctt"),
-        (u64::MAX, "ccctcccctccttccc"),
-    ];
-    for (number, due) in numbers {
-        let mut schedule = Schedule::mix(number);
+    for (number, due) in NUMBERS {
+        let mut schedule = Schedule::mix(*number);
         let found = steps(rt.alloc(), &mut schedule, "h.h.h.h.h.h.h.h.")?;
-        assert_eq!(rt; found.as_str(), due, "of {number}");
+        assert_eq!(rt; found.as_str(), *due, "of {number}");
     }
     Ok(())
 }

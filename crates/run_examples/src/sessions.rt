@@ -157,55 +157,90 @@ fn told_drained(
     Ok(text)
 }
 
-// Each answer costs 100 cycles, so the third output is asked at its own cycle.
+// Outputs of channel 0 at these stamps, on a new core, by a word of a schedule or in lockstep; and what is told.
+struct Row {
+    stamps: &'static [i64],
+    lanes: u32,
+    depth: u32,
+    cost: u64,
+    word: Option<&'static str>,
+    told: &'static str,
+}
+
+const ROWS: &[Row] = &[
+    // Each answer costs 100 cycles, so the third output is asked at its own cycle.
+    Row {
+        stamps: &[1000, 1500, 1600],
+        lanes: 8,
+        depth: 128,
+        cost: 800,
+        word: None,
+        told: "Raised(RTIOUnderflow), 12 steps, at 0 0 100 200 300, drained at 300",
+    },
+    // Two lanes of depth 1: the third output waits for the first to be put out.
+    Row {
+        stamps: &[1000, 2000, 3000],
+        lanes: 2,
+        depth: 1,
+        cost: 0,
+        word: None,
+        told: "Returned, 13 steps, at 0 0 0 125 125, drained at 375",
+    },
+    // By a word it waits as long.
+    Row {
+        stamps: &[1000, 2000, 3000],
+        lanes: 2,
+        depth: 1,
+        cost: 0,
+        word: Some("ct"),
+        told: "Returned, 13 steps, at 0 0 0 125 125, drained at 375",
+    },
+];
+
 #[test]
-fn a_costly_session_ends_by_an_underflow(rt: HostRuntime) -> Result<(), Fail> {
-    let alloc = rt.alloc();
-    let code = outputs(&rt, alloc, &[1000, 1500, 1600])?;
-    let mut core = core_of(&rt, alloc, 8, 128, 800, 134_217_728)?;
-    let found = told_drained(&rt, alloc, &mut core, &code, &mut Schedule::lockstep())?;
-    assert_eq!(rt;
-        found.as_str(),
-        "Raised(RTIOUnderflow), 12 steps, at 0 0 100 200 300, drained at 300"
-    );
+fn sessions_of_outputs_are_as_worked_out(rt: HostRuntime) -> Result<(), Fail> {
+    for row in ROWS {
+        expect_row(&rt, rt.alloc(), row)?;
+    }
     Ok(())
 }
 
-// Two lanes of depth 1: the third output waits for the first to be put out. A second session begins where that one ended.
-#[test]
-fn a_full_core_lets_an_output_wait(rt: HostRuntime) -> Result<(), Fail> {
-    let alloc = rt.alloc();
-    let code = outputs(&rt, alloc, &[1000, 2000, 3000])?;
-    let mut core = core_of(&rt, alloc, 2, 1, 0, 134_217_728)?;
-    let found = told_drained(&rt, alloc, &mut core, &code, &mut Schedule::lockstep())?;
-    assert_eq!(rt;
-        found.as_str(),
-        "Returned, 13 steps, at 0 0 0 125 125, drained at 375"
-    );
-    let code = outputs(&rt, alloc, &[])?;
-    let found = told_drained(&rt, alloc, &mut core, &code, &mut Schedule::lockstep())?;
-    assert_eq!(rt;
-        found.as_str(),
-        "Returned, 1 steps, at 0 0 0 125 125 375 375, drained at 375"
-    );
+fn expect_row(rt: &impl Abort, alloc: Global, row: &Row) -> Result<(), Fail> {
+    let mut schedule = schedule_of(rt, row.word);
+    let code = outputs(rt, alloc, row.stamps)?;
+    let mut core = core_of(rt, alloc, row.lanes, row.depth, row.cost, 134_217_728)?;
+    let found = told_drained(rt, alloc, &mut core, &code, &mut schedule)?;
+    assert_eq!(rt; found.as_str(), row.told);
     Ok(())
 }
 
-#[test]
-fn a_session_by_a_word_waits_as_long(rt: HostRuntime) -> Result<(), Fail> {
-    let alloc = rt.alloc();
-    let Some(mut schedule) = Schedule::letters(b"ct") else {
-        panic!(rt; "a word");
+fn schedule_of(rt: &impl Abort, word: Option<&str>) -> Schedule {
+    let Some(word) = word else {
+        return Schedule::lockstep();
     };
-    let code = outputs(&rt, alloc, &[1000, 2000, 3000])?;
+    let Some(schedule) = Schedule::letters(word.as_bytes()) else {
+        panic!(rt; "{word} is a word");
+    };
+    schedule
+}
+
+#[test]
+fn a_second_session_begins_where_the_first_one_left_the_core(rt: HostRuntime) -> Result<(), Fail> {
+    let alloc = rt.alloc();
     let mut core = core_of(&rt, alloc, 2, 1, 0, 134_217_728)?;
-    let found = told_drained(&rt, alloc, &mut core, &code, &mut schedule)?;
-    assert_eq!(rt;
-        found.as_str(),
-        "Returned, 13 steps, at 0 0 0 125 125, drained at 375"
-    );
+    for told in SECOND {
+        let code = outputs(&rt, alloc, &[1000])?;
+        let found = told_drained(&rt, alloc, &mut core, &code, &mut Schedule::lockstep())?;
+        assert_eq!(rt; found.as_str(), *told);
+    }
     Ok(())
 }
+
+// The first session of one output, and the second, whose output comes too late.
+const SECOND: &[&str] = &[
+    "Returned, 5 steps, at 0 0 0, drained at 125",
+    "Raised(RTIOUnderflow), 4 steps, at 0 0 0 125 125 125, drained at 125",
+];
 
 #[test]
 fn a_session_ends_at_the_horizon(rt: HostRuntime) -> Result<(), Fail> {
