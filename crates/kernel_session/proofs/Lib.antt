@@ -6,3 +6,4 @@ pub mod Meant
 pub mod Playing
 pub mod Playbacks
 pub mod Sessions
+pub mod Taking

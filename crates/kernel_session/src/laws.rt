@@ -1,11 +1,18 @@
 // What holds of every session of a kernel.
 
+ghost use Rattle.std.specs.Prelude.{[]};
 ghost use Rattle.kern_syntax.specs.Tree.{ProgramTree};
 ghost use Rattle.core_isa.specs.declared.code.Code.{Code};
 ghost use Rattle.rtio_core.specs.declared.data.Config.{Config};
 ghost use Rattle.code_law.specs.DoesAs.{DoesAs};
 ghost use Rattle.kernel_session.specs.Counted.{OutputsAndResetsCount};
 ghost use Rattle.kernel_session.specs.Laws.{PlaysWhatItGets};
+ghost use Rattle.kernel_session.specs.Meant.{TakesArguments};
+
+/// The main function of a compiled kernel is `main`, which takes no arguments.
+pub fn main_takes_no_arguments()
+    ensures { (program : ProgramTree) (code : Code) → DoesAs program code → TakesArguments program code.main [] }
+{}
 
 /// Where a function of a compiled kernel asks for a recording and gets it, its next requests are the recording's outputs in
 /// their order, each moved by the cursor at which it asked. They stop before the last one only at one that underflows, or where

@@ -1,8 +1,13 @@
 //! Sessions of compiled kernels: each asks what the kernel's text means, and plays the recordings that it gets.
 #![tactic(auto)]
 
+mod arguments;
 mod laws;
 mod session;
 
-pub use laws::{outputs_and_resets_count, recordings_are_played_where_they_were_asked_for};
+pub use arguments::takes_arguments;
+pub use laws::{
+    main_takes_no_arguments, outputs_and_resets_count,
+    recordings_are_played_where_they_were_asked_for,
+};
 pub use session::run_session;
