@@ -1,0 +1,4 @@
+pub mod Cuts
+mod Loops
+mod Holding
+mod Examples

@@ -1,0 +1,5 @@
+pub mod Readings
+pub mod Parts
+pub mod Numbers
+pub mod Schedules
+pub mod Lists

@@ -1,0 +1,92 @@
+-- Words that are accepted, and words that aren't.
+use Rattle.std.proofs.Common.{◌≡◌, [], ◌∷◌, true, false, Some, None, refl, codes}
+use Rattle.std.specs.Prelude.{pos}
+use Rattle.hex.proofs.OnLiterals.{hex_on_literals}
+use Rattle.rtio_core.specs.declared.data.Config.{Config}
+use Rattle.run_schedule.specs.Schedules.{Lockstep, Letters}
+use Rattle.run_schedule.specs.declared.schedule.Step.TheVariants.{Cpu, Tick}
+use Rattle.option_values.specs.Lists.{no_holds}
+use Rattle.sim_words.specs.declared.asked.Asked.TheVariants.{Sim, Generated, Check, Compile, Exec, Gen}
+use Rattle.sim_words.specs.declared.asked.Options.{Options}
+use Rattle.sim_words.specs.Asked.{asked_of}
+
+abbrev settings : Config
+settings = record { lanes = 8; depth = 128; cost = 0; horizon = 134217728; edges = []; holds = no_holds; kept = [] }
+
+abbrev with_config : Config → Options
+with_config config = record { config = config; budget = 1000000; schedule = Lockstep }
+
+no-options : asked_of (codes "sim" ∷ []) ≡ Some (Sim (with_config settings) false)
+no-options = refl
+
+in-words : asked_of (codes "exec" ∷ codes "--cost" ∷ codes "007" ∷ codes "--lanes=2" ∷ []) ≡ Some (Exec (with_config (record settings { cost = 7; lanes = 2 })) false)
+in-words = refl
+
+any-order : asked_of (codes "exec" ∷ codes "--lanes=2" ∷ codes "--cost" ∷ codes "007" ∷ []) ≡ Some (Exec (with_config (record settings { cost = 7; lanes = 2 })) false)
+any-order = refl
+
+by-letters : asked_of (codes "sim" ∷ codes "--schedule" ∷ codes "letters:tc" ∷ codes "--budget=5" ∷ codes "--dma" ∷ codes "lines" ∷ [])
+    ≡ Some (Sim (record { config = settings; budget = 5; schedule = Letters (Tick ∷ Cpu ∷ []) }) true)
+by-letters = refl
+
+one-edge : asked_of (codes "sim" ∷ codes "--edges=24:1040:r" ∷ []) ≡ Some (Sim (with_config (record settings { edges = record { channel = 24; stamp = pos 1040; rising = true } ∷ [] })) false)
+one-edge = refl
+
+one-recording : asked_of (codes "sim" ∷ codes "--recordings" ∷ codes "p:02000000000a00000000000000" ∷ [])
+    ≡ Some (Sim (with_config (record settings { kept = record { name = codes "p"; recording = record { events = []; length = pos 10 } } ∷ [] })) false)
+unfolding hex_on_literals
+one-recording = refl
+
+farther : asked_of (codes "sim" ∷ codes "--horizon=576460752303423488" ∷ []) ≡ Some (Sim (with_config (record settings { horizon = 576460752303423488 })) false)
+farther = refl
+
+generated : asked_of (codes "sim" ∷ codes "--gen=1" ∷ []) ≡ Some (Generated 1 (with_config settings))
+generated = refl
+
+kernel : asked_of (codes "gen" ∷ codes "--number" ∷ codes "9223372036854775807" ∷ []) ≡ Some (Gen 9223372036854775807)
+kernel = refl
+
+checked : asked_of (codes "check" ∷ []) ≡ Some Check
+checked = refl
+
+compiled : asked_of (codes "compile" ∷ []) ≡ Some Compile
+compiled = refl
+
+-- ---- refused
+
+no-command : asked_of [] ≡ None
+no-command = refl
+
+two-dashes : asked_of (codes "sim" ∷ codes "--" ∷ []) ≡ None
+two-dashes = refl
+
+twice : asked_of (codes "sim" ∷ codes "--cost=8" ∷ codes "--cost" ∷ codes "8" ∷ []) ≡ None
+twice = refl
+
+no-value : asked_of (codes "sim" ∷ codes "--cost" ∷ []) ≡ None
+no-value = refl
+
+empty-value : asked_of (codes "sim" ∷ codes "--cost=" ∷ []) ≡ None
+empty-value = refl
+
+hyphen-value : asked_of (codes "sim" ∷ codes "--schedule" ∷ codes "-8" ∷ []) ≡ None
+hyphen-value = refl
+
+of-another-command : asked_of (codes "sim" ∷ codes "--number=1" ∷ []) ≡ None
+of-another-command = refl
+
+bare-word : asked_of (codes "check" ∷ codes "sim" ∷ []) ≡ None
+bare-word = refl
+
+lists-of-generated : asked_of (codes "sim" ∷ codes "--gen=1" ∷ codes "--dma=lines" ∷ []) ≡ None
+lists-of-generated = refl
+
+too-far : asked_of (codes "sim" ∷ codes "--horizon=134217729" ∷ codes "--schedule=mix:1" ∷ []) ≡ None
+too-far = refl
+
+falling-edges : asked_of (codes "sim" ∷ codes "--edges=24:8:r,24:8:f" ∷ []) ≡ None
+falling-edges = refl
+
+same-names : asked_of (codes "sim" ∷ codes "--recordings=p:02000000000a00000000000000,p:02000000000a00000000000000" ∷ []) ≡ None
+unfolding hex_on_literals
+same-names = refl

@@ -1,0 +1,20 @@
+use Rattle.std.proofs.Common.{map, string_bytes}
+use Rattle.sim_words.specs.Given.{given_of}
+use Rattle.sim_words.specs.Asked.{exec_names, exec_of, gen_names, gen_of, if_read, sim_names, sim_of}
+use Rattle.sim_words.proofs.Accepted.{exec-accepted, gen-accepted, given-accepted, read-accepted, sim-accepted}
+use Rattle.sim_words.proofs.words.read_words.Goals as goal
+
+pub returns-in-sim-clause-accepted : goal.returns-in-sim-clause-accepted
+returns-in-sim-clause-accepted c =
+    let words = map string_bytes c.in-Some.words.now in
+    read-accepted (if_read (given_of sim_names words) sim_of) c.read_sim.result c.read_sim.ensures (given-accepted sim_names words sim_of sim-accepted)
+
+pub returns-in-exec-clause-accepted : goal.returns-in-exec-clause-accepted
+returns-in-exec-clause-accepted c =
+    let words = map string_bytes c.in-Some.words.now in
+    read-accepted (if_read (given_of exec_names words) exec_of) c.read_exec.result c.read_exec.ensures (given-accepted exec_names words exec_of exec-accepted)
+
+pub returns-in-gen-clause-accepted : goal.returns-in-gen-clause-accepted
+returns-in-gen-clause-accepted c =
+    let words = map string_bytes c.in-Some.words.now in
+    read-accepted (if_read (given_of gen_names words) gen_of) c.read_gen.result c.read_gen.ensures (given-accepted gen_names words gen_of gen-accepted)

@@ -1,0 +1,133 @@
+// The words of the program.
+
+ghost use Rattle.std.specs.Prelude.{◌≡◌, ◌≤◌, IfOk, None, Some, List, [], map, string_bytes};
+ghost use Rattle.option_values.specs.Readings.{Reads};
+ghost use Rattle.sim_words.specs.Given.{given_of};
+ghost use Rattle.sim_words.specs.Matches.{HasOptions, given_in};
+ghost use Rattle.sim_words.specs.Asked.{IsAccepted, asked_of, exec_of, exec_names, gen_of, gen_names, if_read, sim_of, sim_names};
+
+use crate::asked::Asked;
+use crate::given::{read_given, value_of};
+use crate::options::{read_dma, read_options};
+use clap::ArgMatches;
+use option_values::{MOST_NUMBER, ValueEnd, read_number};
+use std::alloc::Global;
+
+const SIM_NAMES: [&str; 11] = [
+    "gen",
+    "cost",
+    "lanes",
+    "depth",
+    "horizon",
+    "budget",
+    "schedule",
+    "edges",
+    "hold",
+    "recordings",
+    "dma",
+];
+
+const GEN_NAMES: [&str; 1] = ["number"];
+
+const NO_NAMES: [&str; 0] = [];
+
+/// What the words ask, without the program's name before them. The first is the command; the others are its options, in any
+/// order and each at most once, as `--name value` or `--name=value`. Words that aren't accepted are refused; the only other
+/// error is want of memory.
+pub fn read_words(alloc: Global, words: &[String]) -> Result<Asked, ValueEnd>
+    ensures ok { IfOk result (λ asked. asked_of (map string_bytes words.now) ≡ Some asked) }
+    ensures refused { result ≡ Err ValueEnd.Refused → asked_of (map string_bytes words.now) ≡ None }
+    ensures accepted { IfOk result IsAccepted }
+{
+    let Some((command, words)) = words.split_first() else {
+        return Err(ValueEnd::Refused);
+    };
+    match command.as_str() {
+        "sim" => read_sim(alloc, words),
+        "exec" => read_exec(alloc, words),
+        "gen" => read_gen(alloc, words),
+        "check" => read_bare(alloc, words, Asked::Check),
+        "compile" => read_bare(alloc, words, Asked::Compile),
+        _ => Err(ValueEnd::Refused),
+    }
+}
+
+// The words behind `sim`.
+fn read_sim(alloc: Global, words: &[String]) -> Result<Asked, ValueEnd>
+    ensures { Reads (if_read (given_of sim_names (map string_bytes words.now)) sim_of) result }
+{
+    match read_given(alloc, &SIM_NAMES, words) {
+        Ok(given) => ask_sim(alloc, &given),
+        Err(end) => Err(end),
+    }
+}
+
+// The words behind `exec`.
+fn read_exec(alloc: Global, words: &[String]) -> Result<Asked, ValueEnd>
+    ensures { Reads (if_read (given_of exec_names (map string_bytes words.now)) exec_of) result }
+{
+    match read_given(alloc, &SIM_NAMES[1..], words) {
+        Ok(given) => ask_exec(alloc, &given),
+        Err(end) => Err(end),
+    }
+}
+
+// The words behind `gen`.
+fn read_gen(alloc: Global, words: &[String]) -> Result<Asked, ValueEnd>
+    ensures { Reads (if_read (given_of gen_names (map string_bytes words.now)) gen_of) result }
+{
+    match read_given(alloc, &GEN_NAMES, words) {
+        Ok(given) => ask_gen(&given).ok_or(ValueEnd::Refused),
+        Err(end) => Err(end),
+    }
+}
+
+// The words behind a command without options.
+fn read_bare(alloc: Global, words: &[String], asked: Asked) -> Result<Asked, ValueEnd>
+    ensures { Reads (if_read (given_of [] (map string_bytes words.now)) (λ _. Some asked)) result }
+{
+    match read_given(alloc, &NO_NAMES, words) {
+        Ok(_) => Ok(asked),
+        Err(end) => Err(end),
+    }
+}
+
+// A kernel text is run; with `--gen` it is the generated one, and `--dma` isn't given.
+fn ask_sim(alloc: Global, given: &ArgMatches<'_>) -> Result<Asked, ValueEnd>
+    requires { HasOptions given.now }
+    ensures { Reads (sim_of (given_in given.now)) result }
+{
+    let options = read_options(alloc, given)?;
+    match value_of(given, "gen") {
+        None => {
+            let dma = read_dma(given).ok_or(ValueEnd::Refused)?;
+            Ok(Asked::Sim { options, dma })
+        }
+        Some(text) => {
+            if value_of(given, "dma").is_some() {
+                return Err(ValueEnd::Refused);
+            }
+            let number = read_number(text, 0, MOST_NUMBER).ok_or(ValueEnd::Refused)?;
+            Ok(Asked::Generated { number, options })
+        }
+    }
+}
+
+// An image is run.
+fn ask_exec(alloc: Global, given: &ArgMatches<'_>) -> Result<Asked, ValueEnd>
+    requires { HasOptions given.now }
+    ensures { Reads (exec_of (given_in given.now)) result }
+{
+    let options = read_options(alloc, given)?;
+    let dma = read_dma(given).ok_or(ValueEnd::Refused)?;
+    Ok(Asked::Exec { options, dma })
+}
+
+// The generated kernel of the number that is given.
+fn ask_gen(given: &ArgMatches<'_>) -> Option<Asked>
+    requires { HasOptions given.now }
+    ensures { result ≡ gen_of (given_in given.now) }
+{
+    let number = read_number(value_of(given, "number")?, 0, MOST_NUMBER)?;
+    Some(Asked::Gen { number })
+}
