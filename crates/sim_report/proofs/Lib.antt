@@ -1,0 +1,10 @@
+mod Beyond
+mod Distinct
+mod Joined
+mod Judging
+mod Lines
+mod Missed
+mod Set
+mod Spelled
+mod Walked
+pub mod Ends

@@ -1,0 +1,9 @@
+pub mod Ends
+pub mod Names
+pub mod Pending
+pub mod Steps
+pub mod Datasets
+pub mod Places
+pub mod Lines
+pub mod Report
+pub mod Recordings
