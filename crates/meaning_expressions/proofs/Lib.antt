@@ -1,4 +1,0 @@
-mod Arguments
-mod Datasets
-mod Items
-mod Operated

@@ -1,0 +1,6 @@
+mod Arguments
+mod Entered
+mod Items
+mod Operated
+mod Sizes
+mod Turning

@@ -1,0 +1,91 @@
+// Calls, and the functions of a program.
+
+ghost use Rattle.kern_calls.specs.Calls.{builtin_named};
+ghost use Rattle.kern_syntax.specs.TreeOf.{arguments_of, block_of, function_of, tree_of};
+ghost use Rattle.meaning_runs.specs.Frames.{calls_in, scope_in};
+ghost use Rattle.meaning_state.specs.Does.{Does};
+ghost use Rattle.meaning_steps.specs.Runnable.{CallIsTold};
+ghost use Rattle.meaning_steps.specs.RunnableStatements.{AreRunnableFunctions, IsRunnableBlock};
+ghost use Rattle.timeline_sem.specs.Expressions.{perform_call};
+ghost use Rattle.timeline_sem.specs.Programs.{function_body, function_call};
+
+use crate::blocks::run_block;
+use crate::frame::Frame;
+use kern_calls::builtin_named;
+use kern_syntax::{Argument, Function};
+use meaning_names::{Scope, function_named, names_of};
+use meaning_state::{Early, Reason, State};
+use meaning_steps::{finished, initial_values, perform_builtin};
+use rtio_types::Exc;
+use std::alloc::Global;
+
+/// A call by name, with its numbers: of the language's own function, or else of one of the program.
+#[cycle(runs)]
+pub fn perform_call(
+    alloc: Global,
+    frame: &Frame<'_>,
+    state: &mut State<'_>,
+    name: &[u8],
+    arguments: &[Argument],
+    numbers: &[i64],
+) -> Result<i64, Early>
+    requires { CallIsTold (builtin_named name.now) (arguments_of arguments.now) }
+    ensures { Does result state.new (perform_call (scope_in frame.now) (calls_in frame.now) name.now (builtin_named name.now) (arguments_of arguments.now) numbers.now state.old) }
+{
+    match builtin_named(name) {
+        Some(builtin) => perform_builtin(alloc, &frame.scope, state, builtin, arguments, numbers),
+        None => run_named(alloc, frame, state, name, numbers),
+    }
+}
+
+// A call of the function of a name, if there is one, which takes a unit. Where no further function may become active it
+// raises.
+#[cycle(runs)]
+fn run_named(
+    alloc: Global,
+    frame: &Frame<'_>,
+    state: &mut State<'_>,
+    name: &[u8],
+    numbers: &[i64],
+) -> Result<i64, Early>
+    ensures { Does result state.new (calls_in frame.now name.now numbers.now state.old) }
+{
+    state.take_unit()?;
+    let functions = frame.scope.functions;
+    if frame.room == 0 {
+        return Err(Early::Ended(Reason::Raised(Exc::StackOverflow)));
+    }
+    match function_named(functions, name) {
+        Some(function) => run_function(alloc, functions, frame.room - 1, state, function, numbers),
+        None => Ok(0),
+    }
+}
+
+/// The body of a function, with names of its own, where so many functions more may become active.
+#[cycle(runs)]
+pub fn run_function(
+    alloc: Global,
+    functions: &[Function],
+    room: u32,
+    state: &mut State<'_>,
+    function: &Function,
+    numbers: &[i64],
+) -> Result<i64, Early>
+    requires functions { AreRunnableFunctions (tree_of functions.now) }
+    requires body { IsRunnableBlock (block_of function.now.body) }
+    ensures { Does result state.new (function_body (tree_of functions.now) (function_call (tree_of functions.now) room) (function_of function.now) numbers.now state.old) }
+{
+    let names = names_of(alloc, functions, function)?;
+    let values = initial_values(alloc, &names, numbers)?;
+    let before = state.exchange(values);
+    let frame = Frame {
+        scope: Scope {
+            functions,
+            names: &names,
+        },
+        room,
+    };
+    let ran = run_block(alloc, &frame, state, &function.body);
+    state.exchange(before);
+    finished(ran)
+}

@@ -1,0 +1,79 @@
+// Blocks on the timeline, and handlers.
+
+ghost use Rattle.kern_syntax.specs.TreeOf.{block_of, handlers_of};
+ghost use Rattle.meaning_runs.specs.Frames.{calls_in, scope_in};
+ghost use Rattle.meaning_state.specs.Does.{Does};
+ghost use Rattle.meaning_steps.specs.RunnableStatements.{AreRunnableHandlers, IsRunnableBlock};
+ghost use Rattle.timeline_sem.specs.Statements.{block, handler, parallel_block, recorded};
+
+use crate::blocks::{run_block, run_statement};
+use crate::frame::Frame;
+use kern_syntax::{Block, Handler};
+use meaning_state::{Early, Reason, State};
+use meaning_steps::{name_of_exception, save};
+use rtio_types::{Exc, Name};
+use std::alloc::Global;
+
+/// The statements of a parallel block: each starts at the cursor at hand, and at last the cursor is the greatest.
+#[cycle(runs)]
+pub fn run_parallel(
+    alloc: Global,
+    frame: &Frame<'_>,
+    state: &mut State<'_>,
+    body: &Block,
+) -> Result<(), Early>
+    requires { IsRunnableBlock (block_of body.now) }
+    ensures { Does result state.new (parallel_block (scope_in frame.now) (calls_in frame.now) (block_of body.now) state.old.cursor state.old.cursor state.old) }
+{
+    let start = state.cursor();
+    let mut greatest = start;
+    for statement in body.statements.iter() {
+        state.set_cursor(start);
+        run_statement(alloc, frame, state, &statement.kind)?;
+        greatest = greatest.max(state.cursor());
+    }
+    state.set_cursor(greatest);
+    Ok(())
+}
+
+/// A record block.
+#[cycle(runs)]
+pub fn run_recorded(
+    alloc: Global,
+    frame: &Frame<'_>,
+    state: &mut State<'_>,
+    body: &Block,
+    name: Name,
+) -> Result<(), Early>
+    requires { IsRunnableBlock (block_of body.now) }
+    ensures { Does result state.new (recorded name (block (scope_in frame.now) (calls_in frame.now) (block_of body.now)) state.old) }
+{
+    let before = state.open_recording(alloc);
+    match run_block(alloc, frame, state, body) {
+        Ok(()) => save(alloc, state, name, before),
+        Err(end) => {
+            state.close_recording(before);
+            Err(end)
+        }
+    }
+}
+
+/// The first branch of a `try` with the exception's name, or else the exception goes further.
+#[cycle(runs)]
+pub fn handle(
+    alloc: Global,
+    frame: &Frame<'_>,
+    state: &mut State<'_>,
+    handlers: &[Handler],
+    exception: Exc,
+) -> Result<(), Early>
+    requires { AreRunnableHandlers (handlers_of handlers.now) }
+    ensures { Does result state.new (handler (scope_in frame.now) (calls_in frame.now) (handlers_of handlers.now) exception state.old) }
+{
+    for branch in handlers.iter() {
+        if branch.exception.bytes() == name_of_exception(exception) {
+            return run_block(alloc, frame, state, &branch.body);
+        }
+    }
+    Err(Early::Ended(Reason::Raised(exception)))
+}

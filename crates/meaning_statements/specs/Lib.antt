@@ -1,2 +1,0 @@
-pub mod RunnableStatements
-pub mod Turns

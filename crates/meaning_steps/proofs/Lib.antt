@@ -1,0 +1,2 @@
+mod Datasets
+mod Results

@@ -1,0 +1,5 @@
+pub mod Entering
+pub mod Runnable
+pub mod RunnableFacts
+pub mod RunnableStatements
+pub mod Turns

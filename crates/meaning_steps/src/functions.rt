@@ -1,0 +1,88 @@
+// How a function begins and ends: the values of its names, and what it gives.
+
+ghost use Rattle.std.specs.Prelude.{◌≡◌, IfOk};
+ghost use Rattle.meaning_numbers.specs.Kinds.{type_of_kind};
+ghost use Rattle.meaning_state.specs.Values.{value_held};
+ghost use Rattle.meaning_steps.specs.Entering.{first_value, later_args};
+ghost use Rattle.timeline_sem.specs.Programs.{initial_value, initial_values};
+
+use crate::assigning::repeated;
+use meaning_names::{KnownName, Names};
+use meaning_numbers::Kind;
+use meaning_state::{Early, Held, Reason, Variable};
+use std::alloc::{AllocError, Global};
+
+// The value that a name starts with: 0, False or an array of 0. The only error is want of memory.
+fn initial(alloc: Global, kind: Kind) -> Result<Held, AllocError>
+    ensures { IfOk result (λ held. value_held held ≡ initial_value (type_of_kind kind)) }
+{
+    match kind {
+        Kind::Array(length) => Ok(Held::Array(repeated(alloc, 0, length)?)),
+        _ => Ok(Held::Number(0)),
+    }
+}
+
+// The value that the next name starts with: the next argument, if there is one.
+fn first_held(alloc: Global, kind: Kind, args: &[i64]) -> Result<Held, AllocError>
+    ensures { IfOk result (λ held. value_held held ≡ first_value (type_of_kind kind) args.now) }
+{
+    match args {
+        [] => initial(alloc, kind),
+        [first, ..] => Ok(Held::Number(*first)),
+    }
+}
+
+// The next name with the value that it starts with.
+fn first_variable(alloc: Global, known: &KnownName, args: &[i64]) -> Result<Variable, AllocError>
+    ensures { IfOk result (λ variable. variable ≡ (known.now.0, first_value known.now.1 args.now)) }
+{
+    let held = first_held(alloc, known.kind(), args)?;
+    let name = Vec::from_slice(alloc, known.bytes())?;
+    Ok(Variable::of(name, held))
+}
+
+// The arguments behind the first.
+fn later_args(args: &[i64]) -> &[i64]
+    ensures { result.now ≡ later_args args.now }
+{
+    match args {
+        [] => args,
+        [_, rest @ ..] => rest,
+    }
+}
+
+/// The names of a function with their values when it begins: the parameters have the arguments. The only error is want of
+/// memory.
+pub fn initial_values(
+    alloc: Global,
+    names: &Names,
+    args: &[i64],
+) -> Result<Vec<Variable>, AllocError>
+    ensures { IfOk result (λ values. values.items ≡ initial_values names.now args.now) }
+{
+    let mut values = Vec::new(alloc);
+    let mut left = args;
+    for known in names.items().iter() {
+        values.push(first_variable(alloc, known, left)?)?;
+        left = later_args(left);
+    }
+    Ok(values)
+}
+
+ghost use Rattle.std.specs.Prelude.{⊤, List, ℕ};
+ghost use Rattle.rtio_types.specs.declared.request.Value.{Value};
+ghost use Rattle.meaning_state.specs.Does.{Does};
+ghost use Rattle.timeline_sem.specs.Actions.{Completion, State as Meant};
+ghost use Rattle.timeline_sem.specs.Programs.{leave_function};
+
+/// What a function gives at the end of its body: the value of the `return` that was reached, and else 0.
+pub fn finished(ran: Result<(), Early>) -> Result<i64, Early>
+    ensures { (values : List (List ℕ × Value)) (s : Meant) (m : Completion ⊤) →
+        Does ran s m → Does result (record s { values = values }) (leave_function values m) }
+{
+    match ran {
+        Ok(()) => Ok(0),
+        Err(Early::Ended(Reason::Return(value))) => Ok(value),
+        Err(end) => Err(end),
+    }
+}
