@@ -1,0 +1,9 @@
+mod Examples
+pub mod Numbered
+pub mod Chosen
+pub mod Numbers
+pub mod Firsts
+pub mod Moves
+pub mod Clocked
+pub mod Openings
+pub mod Stored
