@@ -1,6 +1,5 @@
-# A scan of three delays, with loops, functions, a parallel block, arrays and a counted input
-# window. `check` accepts it and writes its canonical text; `sim` runs straight programs alone, and
-# refuses it with `form 7`. Its report is the canonical text.
+# A scan of three delays in two rounds, with functions, a parallel block, arrays and a counted window. Each shot begins with
+# `break_realtime`: `count` has waited until the window before has ended, and the counter stands there.
 
 # Light on one of two channels for so long. The cursor ends where the light does.
 @kernel
@@ -19,9 +18,9 @@ def is_bright(photons: int32) -> bool:
 def main():
     bright = [0] * 3
     delays = [1_000, 2_000, 4_000]
-    core.break_realtime()
-    for shot in range(100):
+    for shot in range(2):
         for place in range(len(delays)):
+            core.break_realtime()
             with parallel:
                 light(True, 800)
                 light(False, 1_200)
