@@ -13,7 +13,7 @@ something is otherwise than written, and says where. What it tries:
   it is what that writes: on standard output, at status 1 on standard error.
 - In a table with the columns line, text and mended, the text is refused with the line, and the mended one isn't refused.
 - Where a sentence says that a text in backquotes gives, or is told as, a line in backquotes, the text is refused so.
-- Each example gives its report, and stands with it in the test of artiq_sim.
+- Each example gives its report under the options in its `.words`, and stands with all three in the test of sim_examples.
 - Each path in backquotes is there; ARCHITECTURE.md names each file of definitions or its folder, and, as the README, each
   crate; each word in backquotes in CONTRACTS.md stands in the code of the crate that its heading names; and the README has
   at most 12 KB, no cell of a table more than forty words.
@@ -26,8 +26,8 @@ import tempfile
 
 ROOT = pathlib.Path(__file__).resolve().parent.parent
 FENCE = re.compile(r"^```(\w*) ?(.*)\n((?:.*\n)*?)```$", re.M)
-GIVES = re.compile(r"`([^`\n]+)` (?:gives|is told as) `((?:lex|syntax|type|code|form) [^`\n]+)`")
-COMMAND = re.compile(r"^    ((?:bin/artiq_sim (?:sim|check|compile)|head|python3 docs/(?!check_documents))[^#\n]*)", re.M)
+GIVES = re.compile(r"`([^`\n]+)` (?:gives|is told as) `((?:lex|syntax|type|code) [^`\n]+)`")
+COMMAND = re.compile(r"^    ((?:bin/artiq_sim (?:sim|check|compile|exec|gen)|head|python3 docs/(?!check_documents))[^#\n]*)", re.M)
 PATH = re.compile(r"`((?:docs|crates|examples|bench|bin)/[\w./-]+)`")
 
 
@@ -49,15 +49,14 @@ class Checker:
             self.wrong += 1
             print(f"{where}: {what}\n  wanted {wanted!r}\n  found  {found!r}")
 
-    def program(self, command, text):
+    def program(self, command, text, options=()):
         run = subprocess.run(
-            [self.folder / "bin" / "artiq_sim", command], input=text.encode(), capture_output=True
+            [self.folder / "bin" / "artiq_sim", command, *options], input=text.encode(), capture_output=True
         )
         return run.returncode, run.stdout.decode(), run.stderr.decode()
 
     def refused(self, where, text, line):
-        command = "sim" if line.startswith("form") else "check"
-        self.expect(where, text, self.program(command, text), (1, "", line + "\n"))
+        self.expect(where, text, self.program("check", text), (1, "", line + "\n"))
 
     def commands(self, where, block):
         status = 0
@@ -99,8 +98,7 @@ class Checker:
             elif {"line", "text", "mended"} <= set(columns) and not set(line) <= set("|- "):
                 row = dict(zip(columns, (cell.strip("`") for cell in cells)))
                 self.refused(where, row["text"], row["line"])
-                command = "sim" if row["line"].startswith("form") else "check"
-                status, _, err = self.program(command, row["mended"])
+                status, _, err = self.program("check", row["mended"])
                 self.expect(where, row["mended"], (status == 1, err), (False, ""))
 
     def page(self, path):
@@ -118,14 +116,14 @@ class Checker:
             self.expect(where, name, (ROOT / name).exists(), True)
 
     def examples(self):
-        tests = (ROOT / "crates/artiq_sim/src/top/tests.rt").read_text()
+        tests = (ROOT / "crates/sim_examples/src/examples.rt").read_text()
         for example in sorted((ROOT / "examples").glob("*.py")):
             report = example.with_suffix(".report").read_text()
-            status, out, err = self.program("sim", example.read_text())
-            if err.startswith("form"):
-                status, out, err = self.program("check", example.read_text())
+            words = example.with_suffix(".words")
+            options = words.read_text().split() if words.exists() else []
+            _, out, err = self.program("sim", example.read_text(), options)
             self.expect(example.name, "its report", (out, err), (report, ""))
-            for text in (example.read_text(), report):
+            for text in (example.read_text(), report, *options):
                 literal = text.replace("\\", "\\\\").replace('"', '\\"').replace("\n", "\\n")
                 self.expect(example.name, "its test", f'"{literal}"' in tests, True)
 
