@@ -1,7 +1,7 @@
 #!/usr/bin/env python3
 """Times artiq_sim on texts of 250 KiB, 500 KiB and 1 MiB near the limit of nodes, beside python3.
 
-The straight texts are filled with comments, and are run. The others have long expressions, and
+The straight ones, which have no loops, are filled with comments, and are run. The others have long expressions, and
 are refused once they are parsed, with status 1.
 """
 

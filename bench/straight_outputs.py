@@ -1,6 +1,6 @@
 #!/usr/bin/env python3
-"""Times artiq_sim on straight kernels of 800 to 6,400 outputs: the time for an output must not grow with the number of
-outputs already made. A program has at most 16,384 nodes, so no straight kernel has many more outputs than that."""
+"""Times artiq_sim on kernels without loops, of 800 to 6,400 outputs: the time for an output must not grow with the number of
+outputs already made. A program has at most 16,384 nodes, so no kernel without loops has many more outputs than that."""
 
 import os
 import subprocess

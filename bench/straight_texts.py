@@ -1,5 +1,5 @@
 #!/usr/bin/env python3
-"""Times artiq_sim on straight texts of 1,000, 2,000 and 4,000 lines beside python3."""
+"""Times artiq_sim on texts without loops, of 1,000, 2,000 and 4,000 lines beside python3."""
 
 from timing import compare
 
