@@ -4,8 +4,8 @@ and 100,000 outputs of calls and parallel blocks.
 
 python3 simulates each kernel in two ways. `simulated` goes through the kernel's text, as a program for any kernel does. `by hand`
 is the kernel written as python's own code on a simulated board; the arithmetic there is python's, with no wrapping. All come
-to the same report, but for its line `code`. Times are processor times of whole processes, each the best of some runs; the
-memory is the most that the process had.
+to the same report, but for its line `code`. Times are processor times of whole processes, each the best of some runs. The
+memory is the least address space in which the program runs, and what an output takes is told beside a run of two outputs.
 
     python3 bench/kernels.py [ROUNDS]
 """
@@ -17,10 +17,8 @@ import tempfile
 
 from simulated_board import Board, Output
 from simulated_kernels import Simulation
+from timing import PROGRAM, ROOT, SIM, memory_needed
 
-ROOT = os.path.dirname(os.path.dirname(os.path.abspath(__file__)))
-PROGRAM = os.path.join(ROOT, "crates", "artiq_sim", "out", "artiq_sim")
-SIM = [os.path.join(ROOT, "bin", "artiq_sim"), "sim"]
 TURNS = 960_000
 
 ARITHMETIC = f"""def main():
@@ -130,43 +128,52 @@ def run_python(way, name):
     sys.stdout.write("\n".join(lines) + "\n")
 
 
-def measured(argv, text, rounds):
-    """The best processor time of some runs on a text in seconds, the greatest memory in MB, and the lines of the report."""
-    best, memory = float("inf"), 0
-    with tempfile.TemporaryFile() as source:
-        source.write(text.encode())
-        for _ in range(rounds):
-            source.seek(0)
-            with tempfile.TemporaryFile() as report:
-                process = subprocess.Popen(argv, stdin=source, stdout=report)
-                _, status, usage = os.wait4(process.pid, 0)
-                process.returncode = os.waitstatus_to_exitcode(status)
-                if process.returncode != 0:
-                    sys.exit(f"{argv} ended with status {process.returncode}")
-                best = min(best, usage.ru_utime + usage.ru_stime)
-                memory = max(memory, usage.ru_maxrss / 1024)
-                report.seek(0)
-                lines = [line for line in report.read().decode().splitlines() if not line.startswith("code")]
-    return best, memory, lines
+def measured(argv, path, rounds):
+    """The best processor time of some runs on a file in seconds, and the lines of the report."""
+    best = float("inf")
+    for _ in range(rounds):
+        with open(path, "rb") as source, tempfile.TemporaryFile() as report:
+            process = subprocess.Popen(argv, stdin=source, stdout=report)
+            _, status, usage = os.wait4(process.pid, 0)
+            process.returncode = os.waitstatus_to_exitcode(status)
+            if process.returncode != 0:
+                sys.exit(f"{argv} ended with status {process.returncode}")
+            best = min(best, usage.ru_utime + usage.ru_stime)
+            report.seek(0)
+            lines = [line for line in report.read().decode().splitlines() if not line.startswith("code")]
+    return best, lines
+
+
+def python_time(way, name, rounds, report):
+    """The time of a kernel in python3. Ends where it has another report."""
+    spent, lines = measured([sys.executable, __file__, way, name], os.devnull, rounds)
+    if lines != report:
+        sys.exit(f"{name}, {way}: another report")
+    return spent
 
 
 def main():
     rounds = int(sys.argv[1]) if len(sys.argv) > 1 else 5
-    with open(os.path.join(ROOT, "examples", "pair_of_pulses.py"), "rb") as text:
+    pair = os.path.join(ROOT, "examples", "pair_of_pulses.py")
+    with open(pair, "rb") as text:
         subprocess.run(SIM, stdin=text, stdout=subprocess.DEVNULL, check=True)
-    print(f"{'kernel':26} {'artiq_sim':>11} {'memory':>8} {'simulated':>10} {'ratio':>6} {'by hand':>9} {'ratio':>6}")
-    for name, (title, text, _) in KERNELS.items():
-        ours, memory, report = measured([PROGRAM, "sim"], text, rounds)
-        times = []
-        for way in ("simulated", "hand"):
-            spent, _, lines = measured([sys.executable, __file__, way, name], "", 1 if way == "simulated" else rounds)
-            if lines != report:
-                sys.exit(f"{name}, {way}: another report")
-            times.append(spent)
-        print(
-            f"{title:26} {1000 * ours:8.1f} ms {memory:5.0f} MB {times[0]:8.2f} s {times[0] / ours:6.0f}"
-            f" {times[1]:7.2f} s {times[1] / ours:6.1f}"
-        )
+    little = memory_needed([PROGRAM, "sim"], pair)
+    print(f"{'kernel':26} {'artiq_sim':>11} {'memory':>8} {'an output':>10} {'simulated':>10} {'ratio':>6} {'by hand':>9} {'ratio':>6}")
+    with tempfile.TemporaryDirectory() as folder:
+        for name, (title, text, _) in KERNELS.items():
+            path = os.path.join(folder, "text")
+            with open(path, "w", encoding="ascii") as file:
+                file.write(text)
+            ours, report = measured([PROGRAM, "sim"], path, rounds)
+            memory = memory_needed([PROGRAM, "sim"], path)
+            outputs = sum(line.startswith("out ") for line in report)
+            each = f"{(memory - little) * 2**20 / outputs:8.0f} B" if outputs else f"{'-':>10}"
+            simulated = python_time("simulated", name, 1, report)
+            by_hand = python_time("hand", name, rounds, report)
+            print(
+                f"{title:26} {1000 * ours:8.1f} ms {memory:5} MB {each} {simulated:8.2f} s {simulated / ours:6.0f}"
+                f" {by_hand:7.2f} s {by_hand / ours:6.1f}"
+            )
 
 
 if __name__ == "__main__":
