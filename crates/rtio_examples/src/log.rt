@@ -4,28 +4,35 @@ use rtio_log::{Log, LogKind, LogLine};
 use rtio_types::Event;
 use std::test::Fail;
 
+const EVENT: Event = Event {
+    channel: 3,
+    address: 0,
+    value: 1,
+    stamp: 1000,
+};
+
+const CLEARED: LogLine = LogLine {
+    kind: LogKind::Cleared,
+    number: 7,
+    event: EVENT,
+};
+
+const SEQUENCE: LogLine = LogLine {
+    kind: LogKind::Sequence,
+    number: 2,
+    event: EVENT,
+};
+
 #[test]
 fn lines_stand_in_the_order_of_adding(rt: HostRuntime) -> Result<(), Fail> {
-    let event = Event {
-        channel: 3,
-        address: 0,
-        value: 1,
-        stamp: 1000,
-    };
-    let first = LogLine {
-        kind: LogKind::Cleared,
-        number: 7,
-        event,
-    };
-    let second = LogLine {
-        kind: LogKind::Sequence,
-        number: 2,
-        event,
-    };
     let mut log = Log::new(rt.alloc());
+    assert_eq!(rt; log.room(), 0);
     log.reserve(2)?;
-    log.add(first);
-    log.add(second);
-    assert_eq!(rt; log.lines(), [first, second].as_slice());
+    log.reserve(1)?;
+    assert_eq!(rt; log.room(), 3);
+    log.add(CLEARED);
+    log.add(SEQUENCE);
+    assert_eq!(rt; log.lines(), [CLEARED, SEQUENCE].as_slice());
+    assert_eq!(rt; log.room(), 1);
     Ok(())
 }

@@ -1,17 +1,21 @@
-// What is done with a core, one thing after another, and what it answers, told in words.
+// What is done with a core, one thing after another.
 
-use rtio_core::{Act, Ask, Config, Core, Entry, Named, NamedList, StartOf, Tick, config_ok};
-use rtio_log::LogLine;
+use crate::telling::{tell_answer, tell_events, tell_log, tell_store};
+use rtio_core::{Ask, Config, Core, Named, NamedList, StartOf, Tick, config_ok};
 use rtio_types::{
-    Edge, EdgeList, Event, IntList, Name, Outcome, Recording, Reply, Request, Value, well_formed,
+    Edge, EdgeList, Event, IntList, Name, Outcome, Recording, Request, Value, well_formed,
 };
 use std::alloc::{AllocError, Global};
+use std::process::Abort;
 use std::test::Fail;
 
 /// What is done with a core. All requests are those of chair 0.
 #[derive(Clone, Copy)]
 pub enum Step {
-    Out(Event),
+    /// Asks for an output at address 0: channel, value and stamp.
+    Out(u8, u32, i64),
+    /// Sets the sensitivity of channel 24 at a moment: 1 for rising edges, 0 for none.
+    Gate(u32, i64),
     Counter,
     Reset,
     Wait(i64),
@@ -25,8 +29,10 @@ pub enum Step {
     FetchHandle(i64),
     Handle,
     Erase,
-    /// Lets the counter go on as far as it may.
+    /// Lets the counter go on as far as it may, tick by tick.
     Run,
+    /// Lets the counter go on by up to so many cycles at once.
+    Leap(u64),
     /// Starts a session of chair 1 for this run.
     Start(u64),
     /// Ends the session of chair 0 with this cursor.
@@ -37,6 +43,8 @@ pub enum Step {
     Log,
     /// Reads how full the lanes were.
     Peaks,
+    /// Reads the recordings that are kept.
+    Store,
 }
 
 /// The numbers of a core's settings.
@@ -46,7 +54,8 @@ pub struct Numbers {
     pub depth: u32,
     pub cost: u64,
     pub horizon: u64,
-    pub holds: [u32; 32],
+    /// A channel and how many cycles it takes to execute an event; the others take none.
+    pub hold: (u8, u32),
     /// The value of a block that the core begins with, saved under the name `p`.
     pub kept: Option<u32>,
 }
@@ -57,59 +66,86 @@ pub const FREE: Numbers = Numbers {
     depth: 128,
     cost: 0,
     horizon: 134_217_728,
-    holds: [0; 32],
+    hold: (0, 0),
     kept: None,
 };
 
-/// Holds of this many cycles on channel 0 and of none on the others.
-pub fn held(cycles: u32) -> [u32; 32] {
-    let mut holds = [0; 32];
-    holds[0] = cycles;
-    holds
+/// A history, for tables: the numbers of a core's settings, the stamps of rising edges of channel 24, what is done with
+/// the core in a session of chair 0 and run 0, and what that tells.
+#[derive(Clone, Copy)]
+pub struct History {
+    pub numbers: Numbers,
+    pub edges: &'static [i64],
+    pub steps: &'static [Step],
+    pub said: &'static str,
 }
 
-/// An output at address 0.
-pub const fn event(channel: u8, value: u32, stamp: i64) -> Event {
-    Event {
-        channel,
-        address: 0,
-        value,
-        stamp,
+/// With the settings of `artiq_sim` and no edges.
+pub const PLAIN: History = History {
+    numbers: FREE,
+    edges: &[],
+    steps: &[],
+    said: "",
+};
+
+/// Asserts what histories tell, each of a new core.
+pub fn expect_told(rt: &impl Abort, alloc: Global, table: &[History]) -> Result<(), Fail> {
+    for history in table {
+        let mut core = started(alloc, history.numbers, history.edges).ok_or("no core")?;
+        let mut text = String::new(alloc);
+        for step in history.steps {
+            go(&mut core, alloc, *step, &mut text)?;
+            text.push_str("; ")?;
+        }
+        assert_eq!(rt; text.as_str(), history.said);
     }
+    Ok(())
 }
 
-/// What a core with these numbers and edges answers, in a session of chair 0 and run 0.
-pub fn told(
-    alloc: Global,
-    numbers: Numbers,
-    edges: &[Edge],
-    steps: &[Step],
-) -> Result<String, Fail> {
-    let mut core = started(alloc, numbers, edges).ok_or("no core")?;
-    let mut text = String::new(alloc);
-    for step in steps {
-        go(&mut core, alloc, *step, &mut text)?;
-        text.push_str("; ")?;
-    }
-    Ok(text)
-}
-
-fn started(alloc: Global, numbers: Numbers, edges: &[Edge]) -> Option<Core> {
-    let config = Config {
-        lanes: numbers.lanes,
-        depth: numbers.depth,
-        cost: numbers.cost,
-        horizon: numbers.horizon,
-        edges: EdgeList::of(Vec::from_slice(alloc, edges).ok()?),
-        holds: numbers.holds,
-        kept: kept(alloc, numbers.kept)?,
-    };
+fn started(alloc: Global, numbers: Numbers, edges: &[i64]) -> Option<Core> {
+    let kept = kept(alloc, numbers.kept)?;
+    let config = config_of(alloc, numbers, edges, kept).ok()?;
     if !config_ok(&config) {
         return None;
     }
     let mut core = Core::new(alloc, config).ok()?;
     core.start(alloc, 0, main_of(alloc, 0)).ok()?;
     Some(core)
+}
+
+/// Settings of these numbers with rising edges of channel 24 at these stamps, and with these recordings.
+pub fn config_of(
+    alloc: Global,
+    numbers: Numbers,
+    stamps: &[i64],
+    kept: NamedList,
+) -> Result<Config, AllocError> {
+    let mut edges = Vec::new(alloc);
+    for stamp in stamps {
+        edges.push(Edge {
+            channel: 24,
+            stamp: *stamp,
+            rising: true,
+        })?;
+    }
+    Ok(Config {
+        lanes: numbers.lanes,
+        depth: numbers.depth,
+        cost: numbers.cost,
+        horizon: numbers.horizon,
+        edges: EdgeList::of(edges),
+        holds: held(numbers.hold),
+        kept,
+    })
+}
+
+fn held(hold: (u8, u32)) -> [u32; 32] {
+    let (channel, cycles) = hold;
+    let mut holds = [0; 32];
+    if channel < 32 {
+        holds[channel as usize] = cycles;
+    }
+    holds
 }
 
 // The recordings that a core begins with.
@@ -126,9 +162,18 @@ fn kept(alloc: Global, value: Option<u32>) -> Option<NamedList> {
 // A block of 80 mu: one output of channel 0 with this value, at 50.
 fn block(alloc: Global, value: u32) -> Result<Recording, AllocError> {
     Ok(Recording {
-        events: vec![in alloc; event(0, value, 50)]?,
+        events: vec![in alloc; event(0, 0, value, 50)]?,
         length: 80,
     })
+}
+
+fn event(channel: u8, address: u8, value: u32, stamp: i64) -> Event {
+    Event {
+        channel,
+        address,
+        value,
+        stamp,
+    }
 }
 
 fn main_of(alloc: Global, rid: u64) -> StartOf {
@@ -144,6 +189,11 @@ fn main_of(alloc: Global, rid: u64) -> StartOf {
 fn go(core: &mut Core, alloc: Global, step: Step, text: &mut String) -> Result<(), Fail> {
     match step {
         Step::Run => run(core, text)?,
+        Step::Leap(max) => {
+            let cycles = core.leap(max);
+            let counter = core.counter();
+            write!(text, "by {cycles} to {counter}")?;
+        }
         Step::Start(rid) => {
             let begun = core.start(alloc, 1, main_of(alloc, rid));
             write!(text, "{begun:?}")?;
@@ -155,6 +205,7 @@ fn go(core: &mut Core, alloc: Global, step: Step, text: &mut String) -> Result<(
             let peaks = core.peaks();
             write!(text, "{peaks:?}")?;
         }
+        Step::Store => tell_store(text, alloc, core.store())?,
         asks => {
             let request = request_of(alloc, asks)?.ok_or("no request")?;
             let answer = ask(core, alloc, request).ok_or("no answer")?;
@@ -168,7 +219,8 @@ fn go(core: &mut Core, alloc: Global, step: Step, text: &mut String) -> Result<(
 fn request_of(alloc: Global, step: Step) -> Result<Option<Request>, Fail> {
     let name = Name::read(b"p").ok_or("no name")?;
     Ok(Some(match step {
-        Step::Out(event) => Request::Out(event),
+        Step::Out(channel, value, stamp) => Request::Out(event(channel, 0, value, stamp)),
+        Step::Gate(value, stamp) => Request::Out(event(24, 2, value, stamp)),
         Step::Counter => Request::Counter,
         Step::Reset => Request::Reset,
         Step::Wait(until) => Request::Wait { until },
@@ -223,69 +275,4 @@ fn run(core: &mut Core, text: &mut String) -> Result<(), Fail> {
         }
     }
     Err("no stop".into())
-}
-
-// Tells the answer, and for a reply at which counter it was entered in the history.
-fn tell_answer(text: &mut String, core: &Core, answer: &Ask) -> Result<(), AllocError> {
-    match answer {
-        Ask::Reply(reply) => {
-            tell_reply(text, reply)?;
-            if let Some(
-                Entry {
-                    act: Act::Asked { at, .. },
-                    ..
-                },
-            ) = core.history().last()
-            {
-                write!(text, " at {at}")?;
-            }
-            Ok(())
-        }
-        Ask::NotYet { until, waiting } => {
-            let kept = core.waiting() == Some(*waiting);
-            write!(text, "not before {until}, kept: {kept}")
-        }
-        Ask::OtherPending { waiting, .. } => {
-            let kept = core.waiting() == Some(*waiting);
-            write!(text, "another waits, kept: {kept}")
-        }
-    }
-}
-
-fn tell_reply(text: &mut String, reply: &Reply) -> Result<(), AllocError> {
-    match reply {
-        Reply::Trace(recording) => {
-            let length = recording.length;
-            write!(text, "length {length},")?;
-            tell_events(text, &recording.events)
-        }
-        _ => write!(text, "{reply:?}"),
-    }
-}
-
-fn tell_events(text: &mut String, events: &[Event]) -> Result<(), AllocError> {
-    for event in events {
-        tell_event(text, event)?;
-    }
-    Ok(())
-}
-
-fn tell_event(text: &mut String, event: &Event) -> Result<(), AllocError> {
-    let Event {
-        channel,
-        address,
-        value,
-        stamp,
-    } = event;
-    write!(text, " {channel}.{address}={value}@{stamp}")
-}
-
-fn tell_log(text: &mut String, log: &[LogLine]) -> Result<(), AllocError> {
-    for line in log {
-        let kind = line.kind;
-        let number = line.number;
-        write!(text, " {kind:?} {number}:")?;
-        tell_event(text, &line.event)?;
-    }
-    Ok(())
 }
