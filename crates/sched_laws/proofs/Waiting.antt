@@ -211,7 +211,7 @@ waiting-by session state pipeline rid r was there free (inr (inr due)) =
     let is : r.status ≡ status.Paused = when-on (length (run_steps session r)) 0 r.rid r.pos (jobs_of state.flying r.rid) (top_of state.runs state.stack r.pipeline) r.status no_run (subst Y on (found-has (Stands session not_ahead state) state.runs rid r was.stands there)) in
     ap (waits_in (jobs_of state.flying r.rid)) is
 
-due-there : (session : Session) (state : SchedState) (pipeline rid : ℕ) → IsSound session state → StepsBy state pipeline rid → (r : Run) × (run_of state.runs rid ≡ Some r)
+pub due-there : (session : Session) (state : SchedState) (pipeline rid : ℕ) → IsSound session state → StepsBy state pipeline rid → (r : Run) × (run_of state.runs rid ≡ Some r)
 due-there session state pipeline rid was (inl due) = let on = top-on (passes (is_of pipeline) state.runs) rid state.stack due.0 in found-below 0 state.runs rid was.numbered (omega arith) (omega (arith, on-known (length state.runs) rid state.stack was.stacked on.0))
 due-there session state pipeline rid was (inr (inl due)) = let found = best-chosen (can_run pipeline) state.runs was.numbered rid due.0 in (found.0, found.1)
 due-there session state pipeline rid was (inr (inr due)) = let on = top-on (passes (is_of pipeline) state.runs) rid state.stack due.0 in found-below 0 state.runs rid was.numbered (omega arith) (omega (arith, on-known (length state.runs) rid state.stack was.stacked on.0))

@@ -1,0 +1,5 @@
+pub mod Halted
+pub mod Kits
+pub mod Jumping
+pub mod Due
+pub mod Taken

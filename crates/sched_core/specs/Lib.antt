@@ -1,0 +1,4 @@
+pub mod Scheds
+pub mod Calls
+pub mod Jumps
+pub mod Inside
