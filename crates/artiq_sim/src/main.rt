@@ -1,19 +1,9 @@
-//! `artiq_sim`: runs the text of a kernel on the simulated core and reports its outputs, checks it and writes its
-//! canonical text, or compiles it and writes the image of its code.
+//! `artiq_sim`: runs the text of a kernel on the simulated core and reports what was put out, checks it and writes its
+//! canonical text, compiles it and writes the image of its code, runs such an image, or writes a large kernel's text.
 #![tactic(auto)]
 
-mod answer;
-mod command;
-mod finish;
-mod pending;
-mod refusal;
-mod report;
-mod run;
-mod step;
-mod straight;
-mod top;
-
 use lab_io::{StdSink, StdSource};
+use sim_program::{sim_top, without_memory};
 use std::alloc::AllocError;
 use std::process::ExitCode;
 use std::{env, io};
@@ -23,8 +13,8 @@ fn main(rt: HostRuntime) -> ExitCode {
     let mut out = StdSink::new(rt.stdout());
     let mut err = StdSink::new(rt.stderr());
     let status = match words(&rt) {
-        Ok(words) => top::sim_top(rt.alloc(), &words, &mut source, &mut out, &mut err),
-        Err(_) => top::without_memory(&mut err),
+        Ok(words) => sim_top(rt.alloc(), &words, &mut source, &mut out, &mut err),
+        Err(_) => without_memory(&mut err),
     };
     ExitCode::from(status)
 }

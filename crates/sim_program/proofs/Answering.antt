@@ -1,0 +1,124 @@
+-- What is answered to the bytes of a command.
+use Rattle.std.proofs.Common.{◌≡◌, ℕ, List, ap}
+use Rattle.std.specs.Prelude.{Ok, Err, Result, IfOk, Bool, length}
+use Rattle.kern_syntax.specs.Tree.{Bytes, ProgramTree}
+use Rattle.kern_syntax.specs.Print.{program_text}
+use Rattle.core_isa.specs.declared.code.Code.{Code}
+use Rattle.core_image.specs.Spelling.{image_of}
+use Rattle.code_law.specs.DoesAs.{DoesAs}
+use Rattle.sim_words.specs.declared.asked.Asked.TheVariants.{Sim, Generated, Exec}
+use Rattle.sim_words.specs.declared.asked.Options.{Options}
+use Rattle.sim_program.specs.declared.answer.Answer.{Answer}
+use Rattle.sim_program.specs.declared.answer.Answer.TheVariants as A
+use Rattle.sim_program.specs.declared.report.Form.{Form}
+use Rattle.sim_program.specs.declared.report.Form.TheVariants.{Report, Summary}
+use Rattle.sim_program.specs.declared.run.Run.{Run}
+use Rattle.sim_program.specs.Texts.{IsKernel, IsKernelText, IsTextRefused}
+use Rattle.sim_program.specs.Images.{IsAcceptedImage, IsImageRefused}
+use Rattle.sim_program.specs.Reports.{status_of}
+use Rattle.sim_program.specs.Answers.{CompilesText, PrintsText}
+use Rattle.sim_program.specs.Readings.{IsAnswerTo, IsCodeRun, IsMainRun, IsNoKernelText, IsReadAs, IsRunAnswer, TellsOf}
+use Rattle.sim_program.proofs.Kernels.{text-not-refused}
+
+-- ---- runs
+
+run-answer : (options : Options) (form : Form) (text : Bytes) (program : ProgramTree) (code : Code) (run : Run) (size : ℕ) (answer : Answer) → IsReadAs text program → IsKernel program → DoesAs program code → size ≡ length (image_of code)
+    → IsMainRun program code options run.core run.outcome run.steps → TellsOf form run options.budget size answer → IsRunAnswer options form text answer
+run-answer options form text program code run size (A.Due bytes finish) read kernel does size_is r tells = (
+  record {
+    core = run.core;
+    how = run.outcome;
+    size = size;
+    steps = run.steps;
+    run = record {
+      program = program;
+      is_kernel = record { is_text = read.is_text; kernel = kernel };
+      main = code.main;
+      left = r.left;
+      runs = r.runs;
+      counted = record { code = code; does = does; size_is = size_is; runs = r.counted };
+      reported = r.reported;
+    };
+    text = tells.0;
+    status_is = ap status_of tells.1;
+  },
+  λ told refused. text-not-refused text told program read kernel refused,
+)
+run-answer options form text program code run size (A.Refused told) read kernel does size_is r tells = absurd tells
+run-answer options form text program code run size (A.Bad told) read kernel does size_is r tells = absurd tells
+
+pub run-answers : (options : Options) (form : Form) (text : Bytes) (program : ProgramTree) (code : Code) (run : Run) (size : ℕ) {E : Type 0} (result : Result Answer E) → IsReadAs text program → IsKernel program → DoesAs program code → size ≡ length (image_of code)
+    → IsMainRun program code options run.core run.outcome run.steps → IfOk result (λ answer. TellsOf form run options.budget size answer) → IfOk result (λ answer. IsRunAnswer options form text answer)
+run-answers options form text program code run size (Ok answer) read kernel does size_is r tells = run-answer options form text program code run size answer read kernel does size_is r tells
+run-answers options form text program code run size (Err e) read kernel does size_is r tells = tt
+
+code-answer : (options : Options) (dma : Bool) (bytes : List ℕ) (code : Code) (run : Run) (size : ℕ) (answer : Answer) → IsAcceptedImage bytes code → ((told : List ℕ) → ¬ IsImageRefused bytes told) → size ≡ length bytes
+    → IsCodeRun code options run.core run.outcome run.steps → TellsOf (Report dma) run options.budget size answer → IsAnswerTo (Exec options dma) bytes answer
+code-answer options dma bytes code run size (A.Due written finish) accepted not_refused size_is r tells = (
+  record {
+    core = run.core;
+    how = run.outcome;
+    size = size;
+    steps = run.steps;
+    run = record {
+      code = code;
+      accepted = accepted;
+      size_is = size_is;
+      left = r.left;
+      session = r.session;
+      after = r.after;
+      timed = r.timed;
+      at_top = r.at_top;
+      reported = r.reported;
+    };
+    text = tells.0;
+    status_is = ap status_of tells.1;
+  },
+  λ told refused. refused,
+  λ told bad. not_refused told bad,
+)
+code-answer options dma bytes code run size (A.Refused told) accepted not_refused size_is r tells = absurd tells
+code-answer options dma bytes code run size (A.Bad told) accepted not_refused size_is r tells = absurd tells
+
+pub code-answers : (options : Options) (dma : Bool) (bytes : List ℕ) (code : Code) (run : Run) (size : ℕ) {E : Type 0} (result : Result Answer E) → IsAcceptedImage bytes code → ((told : List ℕ) → ¬ IsImageRefused bytes told) → size ≡ length bytes
+    → IsCodeRun code options run.core run.outcome run.steps → IfOk result (λ answer. TellsOf (Report dma) run options.budget size answer) → IfOk result (λ answer. IsAnswerTo (Exec options dma) bytes answer)
+code-answers options dma bytes code run size (Ok answer) accepted not_refused size_is r tells = code-answer options dma bytes code run size answer accepted not_refused size_is r tells
+code-answers options dma bytes code run size (Err e) accepted not_refused size_is r tells = tt
+
+-- ---- texts
+
+pub printed : (text written : Bytes) (program : ProgramTree) → IsReadAs text program → IsKernel program → written ≡ program_text program → PrintsText text written × ((told : Bytes) → ¬ IsTextRefused text told)
+printed text written program read kernel is = (
+  record { program = program; is_kernel = record { is_text = read.is_text; kernel = kernel }; printed = is },
+  λ told refused. text-not-refused text told program read kernel refused,
+)
+
+pub compiled : (text written : Bytes) (program : ProgramTree) (code : Code) → IsReadAs text program → IsKernel program → DoesAs program code → written ≡ image_of code → CompilesText text written × ((told : Bytes) → ¬ IsTextRefused text told)
+compiled text written program code read kernel does is = (
+  record { program = program; is_kernel = record { is_text = read.is_text; kernel = kernel }; code = code; does = does; image = is },
+  λ told refused. text-not-refused text told program read kernel refused,
+)
+
+-- a text without a kernel isn't taken
+pub not-taken : (text : Bytes) → IsNoKernelText text → ((program : ProgramTree) × IsKernelText text program) → ⊥
+not-taken text none taken = none taken.0 taken.1
+
+-- ---- the commands that run a kernel
+
+reported : (options : Options) (dma : Bool) (text : Bytes) (answer : Answer) → IsRunAnswer options (Report dma) text answer → IsAnswerTo (Sim options dma) text answer
+reported options dma text (A.Due bytes finish) h = (h.0, λ told refused. h.1 told refused, λ told bad. bad)
+reported options dma text (A.Refused told) h = (h.0, λ taken. h.1 taken.0 taken.1)
+reported options dma text (A.Bad told) h = absurd h
+
+pub reports : (options : Options) (dma : Bool) (text : Bytes) {E : Type 0} (result : Result Answer E) → IfOk result (λ answer. IsRunAnswer options (Report dma) text answer) → IfOk result (λ answer. IsAnswerTo (Sim options dma) text answer)
+reports options dma text (Ok answer) h = reported options dma text answer h
+reports options dma text (Err e) h = tt
+
+summed : (number : ℕ) (options : Options) (text : Bytes) (answer : Answer) → IsRunAnswer options Summary text answer → IsAnswerTo (Generated number options) text answer
+summed number options text (A.Due bytes finish) h = (h.0, λ told refused. h.1 told refused, λ told bad. bad)
+summed number options text (A.Refused told) h = (h.0, λ taken. h.1 taken.0 taken.1)
+summed number options text (A.Bad told) h = absurd h
+
+pub sums : (number : ℕ) (options : Options) (text : Bytes) {E : Type 0} (result : Result Answer E) → IfOk result (λ answer. IsRunAnswer options Summary text answer) → IfOk result (λ answer. IsAnswerTo (Generated number options) text answer)
+sums number options text (Ok answer) h = summed number options text answer h
+sums number options text (Err e) h = tt

@@ -1,0 +1,5 @@
+mod Kernels
+mod Images
+mod Running
+mod Answering
+mod Known

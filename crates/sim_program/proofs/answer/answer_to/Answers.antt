@@ -1,0 +1,12 @@
+use Rattle.sim_program.proofs.Answering.{reports, sums}
+use Rattle.sim_program.proofs.answer.answer_to.Goals as goal
+
+pub returns-in-Sim : goal.returns-in-Sim
+returns-in-Sim c =
+    let told = rw c.deref.ensures.value at c.answer_by_run.ensures in
+    rw c.in-Sim.is (reports c.in-Sim.options c.in-Sim.dma c.args.text.items c.answer_by_run.result told)
+
+pub returns-in-Generated : goal.returns-in-Generated
+returns-in-Generated c =
+    let told = rw c.deref-in-Generated.ensures.value at c.answer_by_run-in-Generated.ensures in
+    rw c.in-Generated.is (sums c.in-Generated.number c.in-Generated.options c.args.text.items c.answer_by_run-in-Generated.result told)

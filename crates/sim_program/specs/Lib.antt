@@ -1,0 +1,6 @@
+pub mod Texts
+pub mod Images
+pub mod Runs
+pub mod Reports
+pub mod Answers
+pub mod Readings

@@ -1,0 +1,121 @@
+-- What the program's parts make of its bytes.
+use Rattle.std.specs.Prelude.{◌≡◌, ℕ, List, Option, Result, Vec, MatchResult}
+use Rattle.std.specs.declared.alloc.Global.{Global}
+use Rattle.lab_io.specs.declared.source.ReadEnd.{ReadEnd}
+use Rattle.lab_io.specs.Reading.{ReadsToEnd}
+use Rattle.rtio_types.specs.declared.outcome.Outcome.{Outcome}
+use Rattle.rtio_types.specs.declared.request.Reply.{Reply}
+use Rattle.rtio_core.specs.Core.{CoreState, new_core}
+use Rattle.run_schedule.specs.Schedules.{Lockstep, ScheduleState}
+use Rattle.core_session.specs.Lockstep.{GrowsAtTop}
+use Rattle.core_session.specs.Scripts.{IsScriptOf, Next}
+use Rattle.core_session.specs.Sessions.{RunsSession, beginning_of}
+use Rattle.core_session.specs.Timed.{IsTimed}
+use Rattle.kern_syntax.specs.Tree.{Bytes, ProgramTree}
+use Rattle.kern_syntax.specs.TreeOf.{tree_of}
+use Rattle.kern_types.specs.Programs.{IsTyped}
+use Rattle.core_isa.specs.declared.code.Code.{Code}
+use Rattle.core_isa.specs.Marks.{Marked}
+use Rattle.core_image.specs.Accepted.{MainTakesNothing}
+use Rattle.sim_words.specs.declared.asked.Asked.{Asked}
+use Rattle.sim_words.specs.declared.asked.Options.{Options}
+use Rattle.sim_program.specs.declared.answer.Answer.{Answer}
+use Rattle.sim_program.specs.declared.answer.Answer.TheVariants as answer
+use Rattle.sim_program.specs.declared.image.Image.{Image}
+use Rattle.sim_program.specs.declared.image.Image.TheVariants as image
+use Rattle.sim_program.specs.declared.kernel.Kernel.{Kernel}
+use Rattle.sim_program.specs.declared.kernel.Kernel.TheVariants as kernel
+use Rattle.sim_program.specs.declared.kernel.Built.{Built}
+use Rattle.sim_program.specs.declared.kernel.Built.TheVariants as built
+use Rattle.sim_program.specs.Texts.{IsKernel, IsKernelText, IsProgramRefused, IsTextOf, IsTextRefused}
+use Rattle.sim_program.specs.Images.{IsAcceptedImage, IsImageRefused}
+use Rattle.sim_program.specs.declared.report.Form.{Form}
+use Rattle.sim_program.specs.Runs.{IsReported, RunsKernel, RunsMain, start_of}
+use Rattle.sim_program.specs.declared.run.Run.{Run}
+use Rattle.sim_report.specs.Pending.{pends}
+use Rattle.sim_program.specs.Reports.{Tells, finish_of, status_of, told_text}
+use Rattle.lab_io.specs.declared.source.ReadEnd.TheVariants.{Memory}
+use Rattle.sim_program.specs.Answers.{Has, IsBad, IsDue, IsRefused, IsTaken, Origin, Reads}
+
+-- the program is the only one that the text has
+pub record IsReadAs (text : Bytes) (program : ProgramTree) : Type 0 where
+  pub is_text : IsTextOf text program
+  pub only : (other : ProgramTree) → IsTextOf text other → program ≡ other
+
+-- no accepted kernel has the text
+abbrev pub IsNoKernelText : Bytes → Type 0
+IsNoKernelText text = (program : ProgramTree) → ¬ IsKernelText text program
+
+-- a text was read as a typed program, or it is refused
+abbrev pub IsKernelOf : Bytes → Kernel → Type 0
+IsKernelOf text (kernel.Typed checked) = IsReadAs text (tree_of checked) × IsTyped (tree_of checked)
+IsKernelOf text (kernel.Refused told) = IsTextRefused text told.items × IsNoKernelText text
+
+-- a program is typed, or it is refused
+abbrev pub IsTypedAs : ProgramTree → Kernel → Type 0
+IsTypedAs program (kernel.Typed checked) = (tree_of checked ≡ program) × IsTyped program
+IsTypedAs program (kernel.Refused told) = IsProgramRefused program told.items
+
+-- a text was read as a kernel and compiled, or it is refused
+abbrev pub IsBuiltOf : Bytes → Built → Type 0
+IsBuiltOf text (built.Ready compiled) = IsReadAs text (tree_of compiled.0) × IsKernel (tree_of compiled.0)
+IsBuiltOf text (built.Refused told) = IsTextRefused text told.items × IsNoKernelText text
+
+-- a typed program was compiled, or it is refused
+abbrev pub IsBuiltAs : ProgramTree → Built → Type 0
+IsBuiltAs program (built.Ready compiled) = (tree_of compiled.0 ≡ program) × IsKernel program
+IsBuiltAs program (built.Refused told) = IsProgramRefused program told.items
+
+-- bytes are the image of accepted code, or they are refused
+abbrev pub IsImageOf : (bytes : List ℕ) → Image → Type 0
+IsImageOf bytes (image.Accepted code) = IsAcceptedImage bytes code × ((told : List ℕ) → ¬ IsImageRefused bytes told)
+IsImageOf bytes (image.Refused told) = IsImageRefused bytes told.items × ((code : Code) → ¬ IsAcceptedImage bytes code)
+
+-- code in range was accepted, or it is refused
+abbrev pub IsVerifiedAs : (bytes : List ℕ) → Code → Image → Type 0
+IsVerifiedAs bytes code (image.Accepted verified) = (verified ≡ code) × Marked code × MainTakesNothing code
+IsVerifiedAs bytes code (image.Refused told) = IsImageRefused bytes told.items
+
+-- a run of the main function of compiled code leaves this core
+pub record IsMainRun (program : ProgramTree) (code : Code) (options : Options) (core : CoreState) (how : Outcome) (steps : ℕ) : Type 0 where
+  pub left : CoreState
+  pub runs : RunsMain program options code.main left how
+  pub counted : RunsSession code options.budget (start_of code.main) (new_core options.config) left how steps
+  pub reported : IsReported left core
+
+-- a run of the main function of accepted code leaves this core
+pub record IsCodeRun (code : Code) (options : Options) (core : CoreState) (how : Outcome) (steps : ℕ) : Type 0 where
+  pub left : CoreState
+  pub session : RunsSession code options.budget (start_of code.main) (new_core options.config) left how steps
+  pub after : ScheduleState
+  pub timed : (next : List Reply → Next)
+      → IsScriptOf code (beginning_of (start_of code.main) options.budget (new_core options.config)) next
+      → IsTimed next 0 (start_of code.main) (new_core options.config) options.schedule left after
+  pub at_top : options.schedule ≡ Lockstep → GrowsAtTop (new_core options.config) left
+  pub reported : IsReported left core
+
+-- an answer tells of a run of the kernel that the text is, or refuses the text
+abbrev pub IsRunAnswer : Options → Form → Bytes → Answer → Type 0
+IsRunAnswer options form text (answer.Due bytes finish) =
+    Tells (RunsKernel options text) form options.budget bytes.items (status_of finish) × ((told : List ℕ) → ¬ IsTextRefused text told)
+IsRunAnswer options form text (answer.Refused told) = IsTextRefused text told.items × IsNoKernelText text
+IsRunAnswer options form text (answer.Bad told) = ⊥
+
+-- an answer has the text of a run and its finish
+abbrev pub TellsOf : Form → Run → (budget size : ℕ) → Answer → Type 0
+TellsOf form run budget size (answer.Due bytes finish) =
+    (bytes.items ≡ told_text form run.core budget size run.steps) × (finish ≡ finish_of run.outcome (pends run.core))
+TellsOf form run budget size (answer.Refused told) = ⊥
+TellsOf form run budget size (answer.Bad told) = ⊥
+
+-- an answer is what a command owes bytes that it doesn't refuse, or the line that refuses bytes that it doesn't take
+abbrev pub IsAnswerTo : Asked → List ℕ → Answer → Type 0
+IsAnswerTo asked text (answer.Due bytes finish) =
+    IsDue asked text bytes.items (status_of finish) × ((told : List ℕ) → ¬ IsRefused asked text told) × ((told : List ℕ) → ¬ IsBad asked text told)
+IsAnswerTo asked text (answer.Refused told) = IsRefused asked text told.items × ¬ IsTaken asked text
+IsAnswerTo asked text (answer.Bad told) = IsBad asked text told.items × ¬ IsTaken asked text
+
+-- a command got its bytes, or gave up: too many were taken, or no more than it may take
+abbrev pub GetsBytes : Origin → (old new : Option (List ℕ)) → Result (Vec ℕ Global) ReadEnd → Type 0
+GetsBytes (Reads most) old new result = ReadsToEnd most old new result
+GetsBytes (Has own) old new result = MatchResult result (λ bytes. bytes.items ≡ own) (λ end. end ≡ Memory)

@@ -1,0 +1,140 @@
+// What the program answers to the bytes of a command.
+ghost use Rattle.std.specs.Prelude.{◌≡◌, ◌<◌, ◌^◌, length, IfOk, IsTrue};
+ghost use Rattle.kern_syntax.specs.TreeOf.{tree_of};
+ghost use Rattle.rtio_core.specs.Entries.{is_config_ok};
+ghost use Rattle.sim_report.specs.Ends.{HasEnded};
+ghost use Rattle.sim_words.specs.Asked.{IsAccepted};
+ghost use Rattle.sim_program.specs.Readings.{IsAnswerTo, IsRunAnswer, TellsOf};
+
+use crate::finish::{Finish, finish_of};
+use crate::image::{Image, image_of};
+use crate::kernel::{Built, Kernel, built_of, kernel_of, over_limit};
+use crate::refusal::code_refusal;
+use crate::report::{Form, text_of};
+use crate::run::{Run, run_image, run_main};
+use core_image::encode;
+use kern_syntax::print;
+use sim_report::pends;
+use sim_words::{Asked, Options};
+use std::alloc::{AllocError, Global};
+
+/// What the program says of the bytes of a command.
+#[derive(Drop)]
+pub enum Answer {
+    /// The bytes that the command owes, and how its run was finished.
+    Due { bytes: Vec<u8>, finish: Finish },
+    /// The line that says why a text is refused.
+    Refused(Vec<u8>),
+    /// The line that says why an image is refused.
+    Bad(Vec<u8>),
+}
+
+/// Does with a command's bytes what it says, or says why they are refused.
+pub fn answer_to(alloc: Global, asked: Asked, text: Vec<u8>) -> Result<Answer, AllocError>
+    requires accepted { IsAccepted asked }
+    requires short { length text.items < 2 ^ 31 }
+    ensures { IfOk result (λ answer. IsAnswerTo asked text.items answer) }
+{
+    match asked {
+        Asked::Sim { options, dma } => answer_by_run(alloc, &text, options, Form::Report { dma }),
+        Asked::Generated { options, .. } => answer_by_run(alloc, &text, options, Form::Summary),
+        Asked::Check => answer_by_text(alloc, &text),
+        Asked::Compile => answer_by_image(alloc, &text),
+        Asked::Exec { options, dma } => answer_by_code(alloc, &text, options, dma),
+        Asked::Gen { .. } => Ok(Answer::Due {
+            bytes: text,
+            finish: Finish::Whole,
+        }),
+    }
+}
+
+// Runs a kernel and tells of its run.
+fn answer_by_run(
+    alloc: Global,
+    text: &[u8],
+    options: Options,
+    form: Form,
+) -> Result<Answer, AllocError>
+    requires config { IsTrue (is_config_ok options.config) }
+    requires short { length text.now < 2 ^ 31 }
+    ensures { IfOk result (λ answer. IsRunAnswer options form text.now answer) }
+{
+    match built_of(alloc, text)? {
+        Built::Refused(line) => Ok(Answer::Refused(line)),
+        Built::Ready(compiled) => {
+            let budget = options.budget;
+            let size = encode(alloc, compiled.code().code())?.len() as u64;
+            let run = run_main(alloc, &compiled, options)?;
+            answer_of_run(alloc, form, &run, budget, size)
+        }
+    }
+}
+
+// Writes the canonical text of a kernel.
+fn answer_by_text(alloc: Global, text: &[u8]) -> Result<Answer, AllocError>
+    requires { length text.now < 2 ^ 31 }
+    ensures { IfOk result (λ answer. IsAnswerTo Asked.Check text.now answer) }
+{
+    match kernel_of(alloc, text)? {
+        Kernel::Refused(line) => Ok(Answer::Refused(line)),
+        Kernel::Typed(checked) => match over_limit(checked.program()) {
+            Some(count) => Ok(Answer::Refused(code_refusal(alloc, count)?)),
+            None => Ok(Answer::Due {
+                bytes: print(alloc, checked.program())?,
+                finish: Finish::Whole,
+            }),
+        },
+    }
+}
+
+// Writes the image of a kernel's code.
+fn answer_by_image(alloc: Global, text: &[u8]) -> Result<Answer, AllocError>
+    requires { length text.now < 2 ^ 31 }
+    ensures { IfOk result (λ answer. IsAnswerTo Asked.Compile text.now answer) }
+{
+    match built_of(alloc, text)? {
+        Built::Refused(line) => Ok(Answer::Refused(line)),
+        Built::Ready(compiled) => Ok(Answer::Due {
+            bytes: encode(alloc, compiled.code().code())?,
+            finish: Finish::Whole,
+        }),
+    }
+}
+
+// Runs the code of an image and reports its run.
+fn answer_by_code(
+    alloc: Global,
+    bytes: &[u8],
+    options: Options,
+    dma: bool,
+) -> Result<Answer, AllocError>
+    requires { IsTrue (is_config_ok options.config) }
+    ensures { IfOk result (λ answer. IsAnswerTo (Asked.Exec options dma) bytes.now answer) }
+{
+    match image_of(alloc, bytes)? {
+        Image::Refused(line) => Ok(Answer::Bad(line)),
+        Image::Accepted(code) => {
+            let budget = options.budget;
+            let size = bytes.len() as u64;
+            let run = run_image(alloc, &code, options)?;
+            answer_of_run(alloc, Form::Report { dma }, &run, budget, size)
+        }
+    }
+}
+
+// Tells of a run.
+fn answer_of_run(
+    alloc: Global,
+    form: Form,
+    run: &Run,
+    budget: u32,
+    size: u64,
+) -> Result<Answer, AllocError>
+    requires { HasEnded run.now.core.history }
+    ensures { IfOk result (λ answer. TellsOf form run.now budget size answer) }
+{
+    Ok(Answer::Due {
+        bytes: text_of(alloc, form, run, budget, size)?,
+        finish: finish_of(run.outcome, pends(&run.core)),
+    })
+}

@@ -1,0 +1,14 @@
+//! The program `artiq_sim` as a function of its words and bytes, with what it promises: what it writes is the report of a run
+//! whose outputs are just those that the kernel means.
+#![tactic(auto)]
+
+mod answer;
+mod finish;
+mod image;
+mod kernel;
+mod refusal;
+mod report;
+mod run;
+mod top;
+
+pub use top::{sim_top, without_memory};
