@@ -1,0 +1,6 @@
+mod Members
+mod Orders
+mod Done
+mod Sorts
+mod PutOut
+mod Lawful
