@@ -4,3 +4,4 @@ mod Done
 mod Sorts
 mod PutOut
 mod Lawful
+mod Examples
