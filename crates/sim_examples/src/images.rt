@@ -1,0 +1,149 @@
+// Images: what `compile` writes, and what `exec` makes of it.
+
+use crate::inputs::{GATE, USUAL};
+use crate::options::{LATE, THREE};
+use crate::program::{expect_refused, run};
+use crate::recordings::TWICE;
+use crate::reports::{PAIR, PARALLEL};
+use std::test::Fail;
+
+// One function with one Return.
+const EMPTY: [u8; 26] = [
+    0x4b, 0x49, 0x4d, 0x31, 1, 0, 0, 0, 0, 0, 1, 0, 0, 0, // one function, main, no names, one line
+    0, 0, 0, 0, 0, 0, 0, 0, // it begins at 0, has no parameter, no slot, no value, and isn't plain
+    0x1d, 0, 0, 0, // Return
+];
+
+#[test]
+fn the_shortest_image_returns(rt: HostRuntime) -> Result<(), Fail> {
+    let left = run(rt.alloc(), &["exec"], EMPTY.as_slice())?;
+    assert_eq!(rt; left.status, 0);
+    assert_eq!(rt;
+        left.out.as_slice(),
+        b"lanes 0 0 0 0 0 0 0 0\ncode 26 1\nend ok\ncursor 0\ncounter 0\n".as_slice()
+    );
+    Ok(())
+}
+
+const OPERAND_TOO_MUCH: [u8; 26] = [
+    0x4b, 0x49, 0x4d, 0x31, 1, 0, 0, 0, 0, 0, 1, 0, 0, 0, //
+    0, 0, 0, 0, 0, 0, 0, 0, //
+    0x1d, 1, 0, 0, // Return with an operand that nothing takes
+];
+
+const WRONG_OPERATION: [u8; 26] = [
+    0x4b, 0x49, 0x4d, 0x31, 1, 0, 0, 0, 0, 0, 1, 0, 0, 0, //
+    0, 0, 0, 0, 0, 0, 0, 0, //
+    0x40, 0, 0, 0, // there is no such instruction
+];
+
+#[test]
+fn other_images_are_refused(rt: HostRuntime) -> Result<(), Fail> {
+    let alloc = rt.alloc();
+    let exec = ["exec"];
+    expect_refused(&rt, alloc, &exec, b"".as_slice(), 9, "image 0\n")?;
+    expect_refused(
+        &rt,
+        alloc,
+        &exec,
+        WRONG_OPERATION.as_slice(),
+        9,
+        "image 22\n",
+    )?;
+    expect_refused(
+        &rt,
+        alloc,
+        &exec,
+        OPERAND_TOO_MUCH.as_slice(),
+        9,
+        "bad code 0\n",
+    )?;
+    let mut longer = EMPTY.as_slice().to_vec(alloc)?;
+    longer.push(0)?;
+    expect_refused(&rt, alloc, &exec, &longer, 9, "image 26\n")
+}
+
+// A kernel, and the options that it is run with.
+struct Kernel {
+    text: &'static str,
+    options: &'static [&'static str],
+}
+
+const KERNELS: &[Kernel] = &[
+    Kernel {
+        text: PAIR,
+        options: &[],
+    },
+    Kernel {
+        text: PARALLEL,
+        options: &[],
+    },
+    Kernel {
+        text: LATE,
+        options: &["--cost", "800"],
+    },
+    Kernel {
+        text: TWICE,
+        options: &["--dma", "lines"],
+    },
+    Kernel {
+        text: GATE,
+        options: &["--edges", "24:1040:r"],
+    },
+    Kernel {
+        text: THREE,
+        options: &["--lanes", "2", "--depth", "1"],
+    },
+    Kernel {
+        text: USUAL,
+        options: &["--edges", "24:127800:r"],
+    },
+    Kernel {
+        text: "def main():\n    while True: pass\n",
+        options: &["--budget", "9", "--schedule", "mix:1"],
+    },
+];
+
+// The report, the line `code` included, and the status are those of `sim`.
+#[test]
+fn exec_reports_an_image_as_sim_its_text(rt: HostRuntime) -> Result<(), Fail> {
+    let alloc = rt.alloc();
+    for kernel in KERNELS {
+        let text = kernel.text.as_bytes();
+        let image = run(alloc, &["compile"], text)?;
+        assert_eq!(rt; image.status, 0, "{}", kernel.text);
+        let mut sim = Vec::new(alloc);
+        sim.push("sim")?;
+        sim.extend_from_slice(kernel.options)?;
+        let mut exec = Vec::new(alloc);
+        exec.push("exec")?;
+        exec.extend_from_slice(kernel.options)?;
+        let of_text = run(alloc, &sim, text)?;
+        let of_image = run(alloc, &exec, &image.out)?;
+        assert_eq!(rt;
+            of_image.out.as_slice(),
+            of_text.out.as_slice(),
+            "{}",
+            kernel.text
+        );
+        assert_eq!(rt; of_image.status, of_text.status, "{}", kernel.text);
+    }
+    Ok(())
+}
+
+// `pass` has no code. Else the lines are four bytes and their operands: a Const has eight, an Out two.
+#[test]
+fn the_line_code_tells_the_image_and_the_instructions(rt: HostRuntime) -> Result<(), Fail> {
+    let alloc = rt.alloc();
+    let left = run(alloc, &["sim"], b"def main(): pass".as_slice())?;
+    assert_eq!(rt;
+        left.out.as_slice(),
+        b"lanes 0 0 0 0 0 0 0 0\ncode 26 1\nend ok\ncursor 0\ncounter 0\n".as_slice()
+    );
+    let left = run(alloc, &["sim"], PAIR.as_bytes())?;
+    assert_eq!(rt;
+        left.out.as_slice(),
+        b"out 1000 0 0 1\nout 1500 0 0 0\nlanes 2 0 0 0 0 0 0 0\ncode 94 9\nend ok\ncursor 1500\ncounter 1496\n".as_slice()
+    );
+    Ok(())
+}
