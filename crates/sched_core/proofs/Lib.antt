@@ -3,3 +3,4 @@ pub mod Kits
 pub mod Jumping
 pub mod Due
 pub mod Taken
+pub mod Reported

@@ -1,5 +1,5 @@
 -- What the calls of a scheduler answer and leave.
-use Rattle.std.specs.Prelude.{◌≡◌, ◌≢◌, ℕ, ◌+◌, Bool, true, false, List, [], ◌∷◌, ◌++◌, map, slice_get, slice_set, ℤ, Option, Some, None, option_map, Result, Ok, Err, IsTrue}
+use Rattle.std.specs.Prelude.{◌≡◌, ◌≢◌, ◌==◌, ◌&&◌, ℕ, ◌+◌, Bool, true, false, List, [], ◌∷◌, ◌++◌, map, slice_get, slice_set, ℤ, Option, Some, None, option_map, Result, Ok, Err, IsTrue}
 use Rattle.exp_runs.specs.declared.run.Run.{Run}
 use Rattle.exp_runs.specs.declared.run.Status.{Status}
 use Rattle.exp_runs.specs.Keys.{run_of}
@@ -90,6 +90,20 @@ HasJob state job = (chair : ℕ) × IsFlying state chair job
 -- who reports the job took it, if it is in flight
 abbrev pub TookIt : SchedState → ℕ → JobName → Type 0
 TookIt state who job = (chair : ℕ) → IsFlying state chair job → chair ≡ who
+
+-- two jobs are the same
+abbrev pub same_job : JobName → JobName → Bool
+same_job (name.Prepare rid) (name.Prepare other) = rid == other
+same_job (name.Step rid place) (name.Step other pos) = (rid == other) && (place == pos)
+same_job (name.Analyze rid) (name.Analyze other) = rid == other
+same_job job other = false
+
+-- a report comes for no run, or for a job that isn't in flight
+abbrev pub IsLate : SchedState → JobName → Why → Type 0
+IsLate state job why.NoRun = run_of state.runs (rid_of job) ≡ None
+IsLate state job (why.WrongStatus status) =
+    (option_map (λ (run : Run). run.status) (run_of state.runs (rid_of job)) ≡ Some status) × (HasJob state job → ⊥)
+IsLate state job other = ⊥
 
 -- why a report is refused: no run has the number; else the job isn't in flight; else the kit is of another source; or for want of
 -- memory

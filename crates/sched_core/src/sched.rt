@@ -12,6 +12,8 @@ ghost use Rattle.sched_state.specs.Boards.{state_of};
 ghost use Rattle.sched_core.specs.Calls.{AnswersNext, HandedOut, HandsOut, jumped, jumps, stopped, with_entry};
 ghost use Rattle.sched_core.specs.Jumps.{JumpsTo};
 
+mod reports;
+
 use crate::ahead::{Ahead, look_ahead};
 use crate::answer::{Job, Next};
 use crate::offer::{pipeline_of, source_of, step_of};
