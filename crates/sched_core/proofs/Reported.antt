@@ -19,17 +19,17 @@ use Rattle.sched_state.specs.declared.entry.Flight.{Flight}
 use Rattle.sched_state.specs.declared.entry.JobName.{JobName}
 use Rattle.sched_state.specs.declared.entry.JobName.TheVariants.{Prepare, Step, Analyze}
 use Rattle.sched_state.specs.declared.entry.SchedAct.{SchedAct}
-use Rattle.sched_state.specs.declared.entry.SchedAct.TheVariants.{Analyzed}
+use Rattle.sched_state.specs.declared.entry.SchedAct.TheVariants.{Analyzed, SourceRefused}
 use Rattle.sched_state.specs.declared.entry.SchedEntry.{SchedEntry}
-use Rattle.sched_state.specs.State.{SchedState, found_passes, landed, rid_of, with_run}
+use Rattle.sched_state.specs.State.{SchedState, found_passes, landed, passes, rid_of, with_run}
 use Rattle.sched_state.specs.Datasets.{stage}
-use Rattle.sched_state.specs.Reports.{after_stage, analyzed, staged, staged_run, steps_of}
+use Rattle.sched_state.specs.Reports.{after_stage, analyzed, refused, staged, staged_run, steps_of}
 use Rattle.sched_state.specs.Lawful.{IfHalted, IsFlying, IsLawful, IsReport, MayCome, MayFollow, after_act, halt_at, halt_by, halted_by, state_after}
 use Rattle.sched_state.specs.Boards.{staged_by, state_of}
 use Rattle.sched_laws.specs.Sound.{jobs_of}
 use Rattle.sched_laws.specs.Waits.{is_waiting, waits, waits_in}
 use Rattle.sched_laws.proofs.Lookups.{at_number, found-changed, found-number}
-use Rattle.sched_laws.proofs.Waiting.{Fewer, analyzed-waits}
+use Rattle.sched_laws.proofs.Waiting.{Fewer, analyzed-waits, refused-waits}
 use Rattle.sched_state.proofs.Openings.{first, second}
 use Rattle.sched_core.specs.declared.sched.Sched.TheInside.{Inside}
 use Rattle.sched_core.specs.Calls.{HasJob, entry_of, same_job}
@@ -160,3 +160,22 @@ stage-report of_stage next session run state steps e found =
 pub analyzed-may : (rid : ℕ) (found : Option ℕ) → IfHalted found (Analyzed rid)
 analyzed-may rid None = tt
 analyzed-may rid (Some by) = tt
+
+pub refused-may : (rid : ℕ) (found : Option ℕ) → IfHalted found (SourceRefused rid)
+refused-may rid None = tt
+refused-may rid (Some by) = tt
+
+refused-at : (rid : ℕ) (state : SchedState) (doomed : Bool) → waits (with_run (λ (r : Run). record r { status = cond doomed status.Deleted status.Failed }) rid (landed rid state)) rid ≡ true → ⊥
+refused-at rid state true h = landing-own status.Deleted rid state (λ js. refl) h
+refused-at rid state false h = landing-own status.Failed rid state (λ js. refl) h
+
+-- nobody comes to wait by a refusal
+pub refused-fewer : (rid : ℕ) (state : SchedState) → Fewer state (refused rid state)
+refused-fewer rid state x h = at (eqb_tells x rid)
+  where
+    W : ℕ → Type 0
+    W y = waits (refused rid state) y ≡ true
+
+    at : ((x == rid) ≡ true) × (x ≡ rid) ⊎ ((x == rid) ≡ false) × (x ≢ rid) → waits state x ≡ true
+    at (inl e) = absurd (refused-at rid state (passes (λ (r : Run). r.doomed) state.runs rid) (subst W e.1 h))
+    at (inr e) = refused-waits rid state x e.1 h

@@ -55,6 +55,43 @@ fn analyze_steps<'a>(session: &'a Session, run: &Run) -> &'a [HostStep]
 }
 
 impl<P: Payload> Sched<P> {
+    /// Reports that a run's source was refused: the run failed, or is deleted if it was doomed. A refused report changes
+    /// nothing.
+    pub fn failed(&mut self, alloc: Global, who: u32, rid: u64) -> Result<(), RefusedRid>
+        requires { TookIt (sched_state self.old) who (name.Prepare rid) }
+        ensures flying { OnOk result (HasJob (sched_state self.old) (name.Prepare rid)) }
+        ensures ok { OnOk result (self.new ≡ with_entry who (act.SourceRefused rid) self.old) }
+        ensures why { IfErr result (λ refused. IsWhy self.old.session (sched_state self.old) (name.Prepare rid) None refused.why) }
+        ensures err { OnErr result (self.new ≡ self.old) }
+    {
+        let run = match self.reported(rid, JobName::Prepare { rid }) {
+            Ok(run) => run,
+            Err(why) => return Err(RefusedRid { why }),
+        };
+        match self.write_refused(alloc, who, run) {
+            Ok(()) => Ok(()),
+            Err(_) => Err(RefusedRid { why: Why::Memory }),
+        }
+    }
+
+    // Writes down that a run's source was refused.
+    fn write_refused(&mut self, alloc: Global, who: u32, run: Run) -> Result<(), AllocError>
+        requires run { run_of (sched_state self.old).runs run.rid ≡ Some run }
+        requires flying { IsFlying (sched_state self.old) who (name.Prepare run.rid) }
+        ensures ok { OnOk result (self.new ≡ with_entry who (act.SourceRefused run.rid) self.old) }
+        ensures err { OnErr result (self.new ≡ self.old) }
+    {
+        self.entries.reserve(2)?;
+        let mut board = self.board.copy(alloc)?;
+        board.refuse(alloc, &run)?;
+        self.board = board;
+        self.entries.push_reserved(SchedEntry {
+            chair: who,
+            act: SchedAct::SourceRefused { rid: run.rid },
+        });
+        Ok(())
+    }
+
     /// Reports that a run is to be analyzed now: its analyze steps are done. A refused report changes nothing.
     pub fn analyzed(&mut self, alloc: Global, who: u32, rid: u64) -> Result<(), RefusedRid>
         requires { TookIt (sched_state self.old) who (name.Analyze rid) }
