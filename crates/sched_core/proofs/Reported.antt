@@ -19,7 +19,7 @@ use Rattle.sched_state.specs.declared.entry.Flight.{Flight}
 use Rattle.sched_state.specs.declared.entry.JobName.{JobName}
 use Rattle.sched_state.specs.declared.entry.JobName.TheVariants.{Prepare, Step, Analyze}
 use Rattle.sched_state.specs.declared.entry.SchedAct.{SchedAct}
-use Rattle.sched_state.specs.declared.entry.SchedAct.TheVariants.{Analyzed, SourceRefused}
+use Rattle.sched_state.specs.declared.entry.SchedAct.TheVariants.{Analyzed, Prepared, SourceRefused}
 use Rattle.sched_state.specs.declared.entry.SchedEntry.{SchedEntry}
 use Rattle.sched_state.specs.State.{SchedState, found_passes, landed, passes, rid_of, with_run}
 use Rattle.sched_state.specs.Datasets.{stage}
@@ -179,3 +179,7 @@ refused-fewer rid state x h = at (eqb_tells x rid)
     at : ((x == rid) ≡ true) × (x ≡ rid) ⊎ ((x == rid) ≡ false) × (x ≢ rid) → waits state x ≡ true
     at (inl e) = absurd (refused-at rid state (passes (λ (r : Run). r.doomed) state.runs rid) (subst W e.1 h))
     at (inr e) = refused-waits rid state x e.1 h
+
+pub prepared-may : (rid : ℕ) (found : Option ℕ) → IfHalted found (Prepared rid)
+prepared-may rid None = tt
+prepared-may rid (Some by) = tt
