@@ -3,6 +3,7 @@
 ghost use Rattle.std.specs.Prelude.{◌≡◌, false, IfOk};
 ghost use Rattle.core_cpu.specs.Moments.{is_asking};
 
+use crate::meant::told_meaning;
 use crate::telling::tell;
 use core_code::{Compiled, compile};
 use core_cpu::{Cpu, Stop};
@@ -33,7 +34,8 @@ pub enum Answer {
 }
 
 impl Answer {
-    fn reply(self, alloc: Global) -> Result<Reply, AllocError> {
+    /// The reply itself.
+    pub fn reply(self, alloc: Global) -> Result<Reply, AllocError> {
         Ok(match self {
             Answer::Done => Reply::Done,
             Answer::Underflow => Reply::Underflow,
@@ -104,19 +106,21 @@ pub fn expect_runs(rt: &impl Abort, alloc: Global, table: &[(&str, Run)]) -> Res
     Ok(())
 }
 
-/// Asserts what is said of a run of the code of this text.
+/// Asserts what is said of a run of this text: of its meaning, and of its code.
 pub fn expect_run(rt: &impl Abort, alloc: Global, text: &str, run: &Run) -> Result<(), Fail> {
     let checked = checked_of(rt, alloc, text)?;
     let Some(function) = checked.function(run.function.as_bytes()) else {
         panic!(rt; "no such function in {text}");
     };
+    let said = told_meaning(alloc, &checked, function, run)?;
+    assert_eq!(rt; said.as_str(), run.said, "of the meaning of {text}");
     let compiled = compile(alloc, checked)?;
     if run.function == "main" {
         let main = compiled.code().code().main;
         assert_eq!(rt; u32::from(main), function, "of {text}");
     }
     let said = told(rt, alloc, &compiled, function, run)?;
-    assert_eq!(rt; said.as_str(), run.said, "of {text}");
+    assert_eq!(rt; said.as_str(), run.said, "of the code of {text}");
     Ok(())
 }
 

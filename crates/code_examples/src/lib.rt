@@ -24,6 +24,8 @@ mod limits;
 #[cfg(test)]
 mod loops;
 #[cfg(test)]
+mod meant;
+#[cfg(test)]
 mod numbers;
 #[cfg(test)]
 mod playbacks;
