@@ -14,3 +14,4 @@ pub mod Played
 pub mod Fields
 pub mod Leaps
 pub mod Errors
+pub mod Booked

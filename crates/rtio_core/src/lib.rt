@@ -1,6 +1,7 @@
 //! One core: a lawful history of requests with the right replies, and the counter that puts its outputs out.
 #![tactic(auto)]
 
+mod booking;
 mod data;
 mod histories;
 mod named;

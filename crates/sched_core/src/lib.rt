@@ -5,6 +5,7 @@
 
 mod ahead;
 mod answer;
+mod booking;
 mod offer;
 mod payload;
 mod sched;

@@ -29,9 +29,9 @@ unreachable-requires g c =
     let J : SchedValue → Type 0 = λ v. JumpsTo v.session (sched_state v) clocks (state_of v.session.arrivals (sched_state v).datasets board) in
     let going = subst G (sym c.self-in-Step.view_is) c.requires.going in
     let there = subst J (sym c.self-in-Step.view_is) c.requires.jumps in
-    let D : JobName → SchedValue → Type 0 = λ j v. pick v.session (state_of v.session.arrivals (sched_state v).datasets board) ≡ Some j in
-    let D1 : JobName → Type 0 = λ j. D j c.args.self.now in
-    let due = subst (D (Step c.in-Step.rid c.in-Step.pos)) (sym c.self-in-Step.view_is) (subst D1 c.in-Step.is c.requires.due) in
+    let IsDue : JobName → SchedValue → Type 0 = λ j v. pick v.session (state_of v.session.arrivals (sched_state v).datasets board) ≡ Some j in
+    let IsDueNow : JobName → Type 0 = λ j. IsDue j c.args.self.now in
+    let due = subst (IsDue (Step c.in-Step.rid c.in-Step.pos)) (sym c.self-in-Step.view_is) (subst IsDueNow c.in-Step.is c.requires.due) in
     step-there source stands calls a board clocks c.in-Step.rid c.in-Step.pos c.self-in-Step.invariant going there due (sym c.in_ok-found-in-Step.ensures ∙ c.in_default.is)
 
 pub returns-in_ok-commit-in-Prepare-clause-ok : goal.returns-in_ok-commit-in-Prepare-clause-ok
@@ -46,9 +46,9 @@ returns-in_ok-commit-in-Prepare-clause-ok g c =
     let J : SchedValue → Type 0 = λ v. JumpsTo v.session (sched_state v) clocks (state_of v.session.arrivals (sched_state v).datasets board) in
     let going = subst G (sym c.self.view_is) c.requires.going in
     let there = subst J (sym c.self.view_is) c.requires.jumps in
-    let D : JobName → SchedValue → Type 0 = λ j v. pick v.session (state_of v.session.arrivals (sched_state v).datasets board) ≡ Some j in
-    let D1 : JobName → Type 0 = λ j. D j c.args.self.now in
-    let due = subst (D (Prepare c.in-Prepare.rid)) (sym c.self.view_is) (subst D1 c.in-Prepare.is c.requires.due) in
+    let IsDue : JobName → SchedValue → Type 0 = λ j v. pick v.session (state_of v.session.arrivals (sched_state v).datasets board) ≡ Some j in
+    let IsDueNow : JobName → Type 0 = λ j. IsDue j c.args.self.now in
+    let due = subst (IsDue (Prepare c.in-Prepare.rid)) (sym c.self.view_is) (subst IsDueNow c.in-Prepare.is c.requires.due) in
     let F : SchedValue → Type 0 = λ v. IsJobFor source stands calls v.session (state_after v.session (v.history ++ jumps c.args.who clocks)) (given.Prepare c.in-Prepare.rid c.source_of-source.result) in (
       c.requires.going,
       clocks,
