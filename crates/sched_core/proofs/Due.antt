@@ -1,7 +1,6 @@
 -- The job that is due has its run, its source and its step.
-use Rattle.std.proofs.Common.{◌≡◌, ◌≢◌, ℕ, zero, suc, ◌+◌, ◌<◌, ◌≤◌, Bool, true, false, List, [], ◌∷◌, ◌++◌, length, refl, sym, ◌∙◌, ap, arith, subst, inl, inr}
-use Rattle.std.specs.Prelude.{ℤ, Option, Some, None, Vec, IsSome, IsTrue, slice_get, slice_set, vec_len, vec_capacity, ◌⊎◌}
-use Rattle.std.specs.declared.alloc.Global.{Global}
+use Rattle.std.proofs.Common.{◌≡◌, ℕ, zero, suc, ◌<◌, Bool, true, List, [], ◌∷◌, length, refl, sym, ◌∙◌, ap, arith, inl, inr}
+use Rattle.std.specs.Prelude.{Option, Some, IsTrue, slice_get, ◌⊎◌}
 use Rattle.exp_runs.specs.declared.run.Run.{Run}
 use Rattle.exp_runs.specs.declared.run.Status.{Status}
 use Rattle.exp_runs.specs.declared.run.Status.TheVariants as status
@@ -13,19 +12,17 @@ use Rattle.sched_state.specs.declared.entry.JobName.{JobName}
 use Rattle.sched_state.specs.declared.entry.JobName.TheVariants.{Prepare, Step, Analyze}
 use Rattle.sched_state.specs.declared.entry.SchedEntry.{SchedEntry}
 use Rattle.sched_state.specs.State.{SchedState, rid_of, top_of}
-use Rattle.sched_state.specs.Picks.{found_pos, pick, pos_of}
-use Rattle.sched_state.specs.Lawful.{IsLawful, found_step, state_after}
+use Rattle.sched_state.specs.Picks.{found_pos, pick}
+use Rattle.sched_state.specs.Lawful.{found_step, state_after}
 use Rattle.sched_state.specs.Reports.{run_steps}
 use Rattle.sched_state.proofs.Chosen.{best-chosen}
-use Rattle.sched_laws.specs.Sound.{HasStep, IsRunOf, IsSound, Stands, StandsIn, is_on, jobs_of, not_ahead}
-use Rattle.sched_laws.specs.Waits.{are_none, is_waiting, waits, waits_in}
-use Rattle.sched_laws.proofs.Lookups.{found-has, found-number}
+use Rattle.sched_laws.specs.Sound.{HasStep, IsSound, Stands, StandsIn, is_on, jobs_of, not_ahead}
+use Rattle.sched_laws.specs.Waits.{are_none, is_waiting, waits_in}
+use Rattle.sched_laws.proofs.Lookups.{found-has}
 use Rattle.sched_laws.proofs.Picked.{analyzes-by, picked, prepares-by, steps-by}
 use Rattle.sched_laws.proofs.Roomy.{roomy-after}
 use Rattle.sched_laws.proofs.Taking.{found-test, found-within}
 use Rattle.sched_laws.proofs.Waiting.{due-there, due-waits}
-use Rattle.sched_core.specs.Scheds.{IsKitFor}
-use Rattle.sched_core.specs.Inside.{AreKits}
 
 -- a job that is due has a run
 pub due-found : (session : Session) (state : SchedState) (job : JobName) → IsSound session state → pick session state ≡ Some job → (run : Run) × (run_of state.runs (rid_of job) ≡ Some run)
@@ -67,7 +64,7 @@ waiting-pos steps rid pos jobs on top status.Failed w h = absurd (cc)
 waiting-pos steps rid pos jobs on top status.Terminated w h = absurd (cc)
 waiting-pos steps rid pos jobs on top status.Deleted w h = absurd (cc)
 
-got : {X : Type 0} (xs : List X) (i : ℕ) → i < length xs → (x : X) × (slice_get xs i ≡ Some x)
+pub got : {X : Type 0} (xs : List X) (i : ℕ) → i < length xs → (x : X) × (slice_get xs i ≡ Some x)
 got [] i h = absurd (omega (arith, h))
 got (x ∷ xs) zero h = (x, refl)
 got (x ∷ xs) (suc i) h = got xs i (omega (arith, h))

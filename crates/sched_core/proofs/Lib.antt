@@ -4,3 +4,4 @@ pub mod Jumping
 pub mod Due
 pub mod Taken
 pub mod Reported
+pub mod Steps

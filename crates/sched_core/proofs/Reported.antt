@@ -1,6 +1,6 @@
 -- A job that is reported, and what the report leaves.
-use Rattle.std.proofs.Common.{◌≡◌, ◌≢◌, ℕ, zero, suc, ◌+◌, ◌<◌, ◌≤◌, Bool, true, false, List, [], ◌∷◌, ◌++◌, cond, length, refl, sym, ◌∙◌, ap, arith, subst, inl, inr}
-use Rattle.std.specs.Prelude.{ℤ, Option, Some, None, Vec, ◌==◌, ◌&&◌, ◌||◌, ◌⊎◌, option_map, slice_get, vec_len, vec_capacity}
+use Rattle.std.proofs.Common.{◌≡◌, ◌≢◌, ℕ, ◌<◌, ◌≤◌, Bool, true, false, List, [], ◌∷◌, ◌++◌, cond, length, refl, sym, ◌∙◌, ap, subst, inl, inr}
+use Rattle.std.specs.Prelude.{ℤ, Option, Some, None, Vec, ◌==◌, ◌&&◌, ◌||◌, ◌⊎◌, option_map, vec_len, vec_capacity}
 use Rattle.std.specs.List.{list_any}
 use Rattle.std.specs.declared.alloc.Global.{Global}
 use Rattle.std.proofs.lemmas.Bool.{eq-eqb, eqb-true}
@@ -21,10 +21,10 @@ use Rattle.sched_state.specs.declared.entry.JobName.TheVariants.{Prepare, Step, 
 use Rattle.sched_state.specs.declared.entry.SchedAct.{SchedAct}
 use Rattle.sched_state.specs.declared.entry.SchedAct.TheVariants.{Analyzed, Prepared, SourceRefused}
 use Rattle.sched_state.specs.declared.entry.SchedEntry.{SchedEntry}
-use Rattle.sched_state.specs.State.{SchedState, found_passes, landed, passes, rid_of, with_run}
+use Rattle.sched_state.specs.State.{SchedState, found_passes, landed, passes, with_run}
 use Rattle.sched_state.specs.Datasets.{stage}
 use Rattle.sched_state.specs.Reports.{after_stage, analyzed, refused, staged, staged_run, steps_of}
-use Rattle.sched_state.specs.Lawful.{IfHalted, IsFlying, IsLawful, IsReport, MayCome, MayFollow, after_act, halt_at, halt_by, halted_by, state_after}
+use Rattle.sched_state.specs.Lawful.{IfHalted, IsLawful, MayCome, after_act, halt_at, halt_by, halted_by, state_after}
 use Rattle.sched_state.specs.Boards.{staged_by, state_of}
 use Rattle.sched_laws.specs.Sound.{jobs_of}
 use Rattle.sched_laws.specs.Waits.{is_waiting, waits, waits_in}

@@ -1,11 +1,12 @@
 -- What the calls of a scheduler answer and leave.
-use Rattle.std.specs.Prelude.{◌≡◌, ◌≢◌, ◌==◌, ◌&&◌, ℕ, ◌+◌, Bool, true, false, List, [], ◌∷◌, ◌++◌, map, slice_get, slice_set, ℤ, Option, Some, None, option_map, Result, Ok, Err, IsTrue}
+use Rattle.std.specs.Prelude.{◌≡◌, ◌≢◌, ◌==◌, ◌&&◌, ℕ, ◌+◌, Bool, true, false, List, [], ◌∷◌, ◌++◌, map, slice_get, slice_set, ℤ, Option, Some, None, option_map, IsTrue}
 use Rattle.exp_runs.specs.declared.run.Run.{Run}
 use Rattle.exp_runs.specs.declared.run.Status.{Status}
+use Rattle.exp_runs.specs.declared.run.Status.TheVariants.{RunDone}
 use Rattle.exp_runs.specs.Keys.{run_of}
+use Rattle.exp_runs.specs.Statuses.{is_ended}
 use Rattle.exp_model.specs.declared.session.Session.{Session}
 use Rattle.exp_model.specs.declared.step.HostStep.{HostStep}
-use Rattle.sched_state.specs.declared.entry.Flight.{Flight}
 use Rattle.sched_state.specs.declared.entry.JobName.{JobName}
 use Rattle.sched_state.specs.declared.entry.JobName.TheVariants as name
 use Rattle.sched_state.specs.declared.entry.SchedAct.{SchedAct}
@@ -21,7 +22,7 @@ use Rattle.sched_state.specs.State.{SchedState, rid_of}
 use Rattle.sched_state.specs.Picks.{pick, is_over}
 use Rattle.sched_state.specs.declared.entry.KernelResult.{KernelResult}
 use Rattle.sched_state.specs.Reports.{step_effect}
-use Rattle.sched_state.specs.Lawful.{halted_by, step_at, IsFlying}
+use Rattle.sched_state.specs.Lawful.{halted_by, step_at, HasResult, IsFlying}
 use Rattle.sched_core.specs.Scheds.{SchedValue, sched_state, source_of_run, IsKitFor}
 
 abbrev pub entry_of : ℕ → SchedAct → SchedEntry
@@ -105,7 +106,11 @@ IsLate state job (why.WrongStatus status) =
     (option_map (λ (run : Run). run.status) (run_of state.runs (rid_of job)) ≡ Some status) × (HasJob state job → ⊥)
 IsLate state job other = ⊥
 
--- why a report is refused: no run has the number; else the job isn't in flight; else the kit is of another source; or for want of
+-- the sources agree, where a kit comes with the report
+abbrev pub IsOwnKit : Session → SchedState → ℕ → ℕ → Type 0
+IsOwnKit session state rid source = (run : Run) × (run_of state.runs rid ≡ Some run) × (source_of_run session run ≡ Some source)
+
+-- why a report is refused: no run has the number; else the job isn't in flight; else the kit is of another source; else for want of
 -- memory
 abbrev pub IsWhy : Session → SchedState → JobName → Option ℕ → Why → Type 0
 IsWhy session state job source why.NoRun = run_of state.runs (rid_of job) ≡ None
@@ -114,11 +119,8 @@ IsWhy session state job source (why.WrongStatus status) =
 IsWhy session state job None (why.Foreign number) = ⊥
 IsWhy session state job (Some source) (why.Foreign number) =
     HasJob state job × (run : Run) × (run_of state.runs (rid_of job) ≡ Some run) × (source_of_run session run ≡ Some number) × (number ≢ source)
-IsWhy session state job source why.Memory = HasJob state job
-
--- the sources agree, where a kit comes with the report
-abbrev pub IsOwnKit : Session → SchedState → ℕ → ℕ → Type 0
-IsOwnKit session state rid source = (run : Run) × (run_of state.runs rid ≡ Some run) × (source_of_run session run ≡ Some source)
+IsWhy session state job None why.Memory = HasJob state job
+IsWhy session state job (Some source) why.Memory = HasJob state job × IsOwnKit session state (rid_of job) source
 
 -- a halt, where there was none
 abbrev pub unless_halted : ℕ → SchedValue → Option ℕ → SchedValue
@@ -141,3 +143,13 @@ stepped who rid place result sched =
 abbrev pub KitFits : {P : Type 0} → (P → ℕ) → (P → List ℕ → Type 0) → (P → List ℕ → List ℤ → Type 0) → SchedValue → ℕ → P → Type 0
 KitFits source stands_for has_call sched rid kit =
     (run : Run) → run_of (sched_state sched).runs rid ≡ Some run → source_of_run sched.session run ≡ Some (source kit) → IsKitFor source stands_for has_call sched.session run kit
+
+-- a result comes with the report of a kernel's step, and with that of no other
+abbrev pub RanFits : SchedValue → ℕ → ℕ → Option KernelResult → Type 0
+RanFits sched rid place ran =
+    (step : HostStep) → step_at sched.session (sched_state sched) rid place ≡ Some step → HasResult (Some step) ran
+
+-- a run that stands here has no step left to do
+abbrev pub is_through : Status → Bool
+is_through RunDone = true
+is_through other = is_ended other

@@ -1,17 +1,14 @@
 -- A scheduler as its callers see it.
-use Rattle.std.specs.Prelude.{◌≡◌, ◌≢◌, ℕ, ◌≤◌, ◌<◌, List, [], ◌∷◌, ◌++◌, drop, length, slice_get, ℤ, Option, Some, None, IsTrue, IsSome, vec_len, vec_capacity, false}
+use Rattle.std.specs.Prelude.{◌≡◌, ℕ, List, [], slice_get, ℤ, Option, Some, None, IsTrue}
 use Rattle.std.specs.List.{AllByRecursion}
 use Rattle.exp_runs.specs.declared.run.Run.{Run}
-use Rattle.exp_runs.specs.declared.run.Status.{Status}
-use Rattle.exp_runs.specs.declared.run.Status.TheVariants.{Prepared, Paused, Running}
-use Rattle.exp_runs.specs.Keys.{run_of}
 use Rattle.exp_model.specs.declared.session.Session.{Session}
 use Rattle.exp_model.specs.declared.session.Experiment.{Experiment}
 use Rattle.exp_model.specs.declared.step.HostStep.{HostStep}
 use Rattle.exp_model.specs.declared.step.HostStep.TheVariants.{Kernel}
 use Rattle.sched_state.specs.declared.entry.SchedEntry.{SchedEntry}
-use Rattle.sched_state.specs.State.{SchedState, is_stepping}
-use Rattle.sched_state.specs.Lawful.{IsLawful, state_after, halted_by}
+use Rattle.sched_state.specs.State.{SchedState}
+use Rattle.sched_state.specs.Lawful.{IsLawful, state_after}
 use Rattle.sched_state.specs.Reports.{steps_in}
 use Rattle.exp_model.specs.Sessions.{is_session}
 

@@ -13,6 +13,7 @@ ghost use Rattle.sched_core.specs.Calls.{AnswersNext, HandedOut, HandsOut, jumpe
 ghost use Rattle.sched_core.specs.Jumps.{JumpsTo};
 
 mod reports;
+mod steps;
 
 use crate::ahead::{Ahead, look_ahead};
 use crate::answer::{Job, Next};

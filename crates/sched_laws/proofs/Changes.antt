@@ -24,12 +24,13 @@ use Rattle.sched_state.specs.declared.entry.SchedAct.{SchedAct}
 use Rattle.sched_state.specs.declared.entry.SchedAct.TheVariants as act
 use Rattle.sched_state.specs.declared.entry.SchedEntry.{SchedEntry}
 use Rattle.sched_state.specs.declared.entry.StepWord.TheVariants as word
-use Rattle.sched_state.specs.State.{SchedState, passes, with_run, off_stack, landed}
-use Rattle.sched_state.specs.Arrivals.{has_come, submitted, is_busy, deleted, deleted_run, doomed, ordered_to_end, terminated, terminated_run, arrived, at_clock, opening}
+use Rattle.sched_state.specs.State.{SchedState, with_run, off_stack, landed}
+use Rattle.sched_state.specs.Arrivals.{has_come, submitted, is_busy, deleted, deleted_run, doomed, ordered_to_end, terminated_run, arrived, at_clock, opening}
 use Rattle.sched_state.specs.Picks.{taken}
 use Rattle.sched_state.specs.Datasets.{Stage, stage, changes_by, kernel_changes}
-use Rattle.sched_state.specs.Reports.{Effect, moved_on, steps_of, run_steps, after_stage, staged, staged_run, refused, is_full, fails, goes_on, after_kernel, effect, after_storing, settle, settled, status_then, run_effect, step_effect, step_effect_of, after_clock}
-use Rattle.sched_state.specs.Lawful.{after_act, after_entry, state_after}
+use Rattle.sched_state.specs.Reports.{Effect, steps_of, run_steps, after_stage, staged, staged_run, is_full, fails, goes_on, after_kernel, effect, after_storing, status_then, run_effect, step_effect, step_effect_of, after_clock}
+use Rattle.sched_state.specs.Lawful.{after_act, after_entry}
+use Rattle.sched_laws.proofs.Moving.{by-settling}
 use Rattle.sched_laws.specs.Ladder.{stage_changes, or_no_changes, changes_of_step, changes_of_found, changes_of_run, changes_of_act, changes_from, DatasetsAreSetAndAppended}
 
 -- the state has these datasets
@@ -43,7 +44,8 @@ either datasets false x y p q = q
 by-delete-of : (rid : ℕ) (state : SchedState) (found : Option Run) → Has state.datasets (deleted_run rid state found)
 by-delete-of rid state None = refl
 by-delete-of rid state (Some run) =
-    either state.datasets (is_ended run.status) state (cond (is_busy state.flying run) (with_run (doomed run) rid state) (off_stack status.Deleted rid state)) refl
+    either state.datasets (is_ended run.status) state (cond (is_busy state.flying run) (with_run (doomed run) rid state) (off_stack status.Deleted rid state))
+    refl
     (either state.datasets (is_busy state.flying run) (with_run (doomed run) rid state) (off_stack status.Deleted rid state) refl refl)
 
 by-delete : (rid : ℕ) (state : SchedState) → Has state.datasets (deleted rid state)
@@ -61,12 +63,15 @@ by-arrival state (Submit asked) = refl
 by-arrival state (Delete rid) = by-delete rid state
 by-arrival state (Terminate rid) = by-terminate-of rid state (run_of state.runs rid)
 
-by-arrivals : (arrivals : List Arrival) (state : SchedState) → Has state.datasets (fold (λ before (arrival : Arrival). arrived before arrival.act) state arrivals)
+by-arrivals : (arrivals : List Arrival) (state : SchedState)
+    → Has state.datasets (fold (λ before (arrival : Arrival). arrived before arrival.act) state arrivals)
 by-arrivals [] state = refl
 by-arrivals (arrival ∷ arrivals) state = by-arrivals arrivals (arrived state arrival.act) ∙ by-arrival state arrival.act
 
 by-clock : (clock : ℕ) (state : SchedState) → Has state.datasets (at_clock clock state)
-by-clock clock state = by-arrivals (filter (has_come clock) state.arrivals) (record state { clock = clock; arrivals = filter (λ arrival. not (has_come clock arrival)) state.arrivals })
+by-clock clock state =
+    by-arrivals (filter (has_come clock) state.arrivals)
+    (record state { clock = clock; arrivals = filter (λ arrival. not (has_come clock arrival)) state.arrivals })
 
 by-taking : (chair : ℕ) (job : JobName) (state : SchedState) → Has state.datasets (taken chair job state)
 by-taking chair (Prepare rid) state = refl
@@ -75,7 +80,8 @@ by-taking chair (Analyze rid) state = refl
 
 -- the state has the datasets that these changes make
 stage-at : (then_ : Status) (rid : ℕ) (done : Stage) (state : SchedState) (b : Bool)
-    → (cond b (with_run (with_status status.Deleted) rid state) (after_stage then_ rid done state)).datasets ≡ datasets_after (cond b [] done.changes) state.datasets
+    → (cond b (with_run (with_status status.Deleted) rid state) (after_stage then_ rid done state)).datasets ≡ datasets_after
+    (cond b [] done.changes) state.datasets
 stage-at then_ rid done state true = refl
 stage-at then_ rid done state false = refl
 
@@ -107,7 +113,8 @@ by-storing state (Some changes) = refl
 
 by-effect : (session : Session) (run : Run) (what : HostStep) (result : Option KernelResult) (state : SchedState)
     → EndHas (datasets_after (changes_of_step what result state.datasets) state.datasets) (effect session run what result state)
-by-effect session run (step.Kernel name args) (Some result) state = by-kernel result.outcome (record state { datasets = datasets_after (kernel_changes result.sets) state.datasets })
+by-effect session run (step.Kernel name args) (Some result) state =
+    by-kernel result.outcome (record state { datasets = datasets_after (kernel_changes result.sets) state.datasets })
 by-effect session run (step.Kernel name args) None state = refl
 by-effect session run step.Pause result state =
     let lends : Bool = nat_lt run.pos (length (run_steps session run)) && some_higher state.runs run.rid state.clock in
@@ -116,26 +123,16 @@ by-effect session run step.Pause result state =
     either-end state.datasets run.terminate ends (cond lends lent (goes_on state)) refl (either-end state.datasets lends lent (goes_on state) refl refl)
 by-effect session run step.CheckTermination result state =
     either-end state.datasets run.terminate (record { word = word.Terminated; status = status.Terminated; state = state }) (goes_on state) refl refl
-by-effect session run (step.Submit asked) result state = either-end state.datasets (is_full state) (fails word.Failed state) (goes_on (submitted asked state)) refl refl
-by-effect session run (step.Set name value broadcast persist archive) result state = by-storing state (changes_by (step.Set name value broadcast persist archive) state.datasets)
+by-effect session run (step.Submit asked) result state =
+    either-end state.datasets (is_full state) (fails word.Failed state) (goes_on (submitted asked state)) refl refl
+by-effect session run (step.Set name value broadcast persist archive) result state =
+    by-storing state (changes_by (step.Set name value broadcast persist archive) state.datasets)
 by-effect session run (step.Append name item) result state = by-storing state (changes_by (step.Append name item) state.datasets)
 by-effect session run (step.Sum name target) result state = by-storing state (changes_by (step.Sum name target) state.datasets)
 
-by-settling : (then_ : Status) (rid : ℕ) (state : SchedState) → Has state.datasets (settle then_ rid state)
-by-settling status.Pending rid state = refl
-by-settling status.Preparing rid state = refl
-by-settling status.Prepared rid state = refl
-by-settling status.Running rid state = refl
-by-settling status.Paused rid state = refl
-by-settling status.RunDone rid state = refl
-by-settling status.Analyzing rid state = refl
-by-settling status.Done rid state = refl
-by-settling status.Failed rid state = refl
-by-settling status.Terminated rid state = refl
-by-settling status.Deleted rid state = refl
-
 doomed-at : (session : Session) (run : Run) (what : HostStep) (result : Option KernelResult) (state : SchedState) (b : Bool)
-    → EndHas (datasets_after (cond b [] (changes_of_step what result state.datasets)) state.datasets) (cond b (record { word = word.Deleted; status = status.Deleted; state = state }) (effect session run what result state))
+    → EndHas (datasets_after (cond b [] (changes_of_step what result state.datasets)) state.datasets)
+    (cond b (record { word = word.Deleted; status = status.Deleted; state = state }) (effect session run what result state))
 doomed-at session run what result state true = refl
 doomed-at session run what result state false = by-effect session run what result state
 
@@ -153,18 +150,20 @@ by-step-of : (session : Session) (place : ℕ) (result : Option KernelResult) (n
 by-step-of session place result now None = refl
 by-step-of session place result now (Some run) =
     let end : Effect = run_effect session run (slice_get (run_steps session run) place) result now in
-    by-settling (status_then end.status run.pos (length (run_steps session run))) run.rid (landed run.rid end.state)
+    by-settling (Has end.state.datasets) (status_then end.status run.pos (length (run_steps session run))) run.rid (landed run.rid end.state) refl refl
     ∙ by-run-effect session run (slice_get (run_steps session run) place) result now
 
 by-step : (session : Session) (rid place : ℕ) (result : Option KernelResult) (state : SchedState)
-    → EndHas (datasets_after (changes_of_run session place result state.datasets (run_of (after_clock rid state).runs rid)) state.datasets) (step_effect session rid place result state)
+    → EndHas (datasets_after (changes_of_run session place result state.datasets (run_of (after_clock rid state).runs rid)) state.datasets)
+    (step_effect session rid place result state)
 by-step session rid place result state =
     let now : SchedState = after_clock rid state in
     let same : now.datasets ≡ state.datasets = by-clock (state.clock + 1) state in
     by-step-of session place result now (run_of now.runs rid)
     ∙ ap (λ datasets. datasets_after (changes_of_run session place result datasets (run_of now.runs rid)) datasets) same
 
-by-act : (session : Session) (chair : ℕ) (what : SchedAct) (state : SchedState) → (after_act session chair what state).datasets ≡ datasets_after (changes_of_act session state what) state.datasets
+by-act : (session : Session) (chair : ℕ) (what : SchedAct) (state : SchedState)
+    → (after_act session chair what state).datasets ≡ datasets_after (changes_of_act session state what) state.datasets
 by-act session chair (act.Took job) state = by-taking chair job state
 by-act session chair (act.Prepared rid) state = by-stage (λ (e : Experiment). e.prepare) status.Prepared session rid state
 by-act session chair (act.Stepped rid place pipeline clock result word) state = by-step session rid place result state
@@ -177,7 +176,8 @@ after-append : (xs ys : List Change) (datasets : List Dataset) → datasets_afte
 after-append [] ys datasets = refl
 after-append (x ∷ xs) ys datasets = after-append xs ys (after datasets x)
 
-by-history : (session : Session) (history : List SchedEntry) (state : SchedState) → (fold (after_entry session) state history).datasets ≡ datasets_after (changes_from session state history) state.datasets
+by-history : (session : Session) (history : List SchedEntry) (state : SchedState)
+    → (fold (after_entry session) state history).datasets ≡ datasets_after (changes_from session state history) state.datasets
 by-history session [] state = refl
 by-history session (entry ∷ rest) state =
     by-history session rest (after_entry session state entry)
@@ -187,4 +187,5 @@ by-history session (entry ∷ rest) state =
 pub datasets-made : DatasetsAreSetAndAppended
 datasets-made session history ok lawful =
     by-history session history (opening session)
-    ∙ ap (datasets_after (changes_from session (opening session) history)) (by-clock 0 (record { runs = []; stack = []; flying = []; clock = 0; arrivals = session.arrivals; datasets = [] }))
+    ∙ ap (datasets_after (changes_from session (opening session) history))
+    (by-clock 0 (record { runs = []; stack = []; flying = []; clock = 0; arrivals = session.arrivals; datasets = [] }))

@@ -1,6 +1,6 @@
 -- What the invariant says of every lawful history.
-use Rattle.std.proofs.Common.{◌≡◌, ℕ, ◌+◌, ◌≤◌, Bool, true, false, List, [], ◌∷◌, ◌++◌, fold, length, refl, sym, ◌∙◌, ap, arith, subst}
-use Rattle.std.specs.Prelude.{Some, None, IsTrue}
+use Rattle.std.proofs.Common.{◌≡◌, Bool, true, false, List, [], ◌∷◌, ◌++◌, fold, refl, sym, arith, subst}
+use Rattle.std.specs.Prelude.{IsTrue}
 use Rattle.std.proofs.lemmas.List.Sums.{fold-append}
 use Rattle.exp_runs.specs.declared.run.Run.{Run}
 use Rattle.exp_model.specs.declared.session.Session.{Session}
@@ -10,7 +10,6 @@ use Rattle.sched_state.specs.Arrivals.{opening}
 use Rattle.sched_state.specs.Picks.{is_over}
 use Rattle.sched_state.specs.Lawful.{after_entry, state_after}
 use Rattle.sched_state.proofs.Numbers.{numbered-after}
-use Rattle.sched_laws.specs.Sound.{IsSound}
 use Rattle.sched_laws.specs.Ladder.{NeverStuck, RunsAreFew, RunsStay}
 use Rattle.sched_laws.proofs.Histories.{sound-after}
 use Rattle.sched_laws.proofs.Never.{never-stuck as stuck-never}
@@ -28,13 +27,16 @@ over session history ok lawful none idle no_date = at (is_over (state_after sess
 pub few : RunsAreFew
 few session history ok lawful = let most = roomy-after session history ok in omega (arith, most)
 
-stay-from : (session : Session) (old : List Run) (rest : List SchedEntry) (state : SchedState) → Stays old state.runs → Stays old (fold (after_entry session) state rest).runs
+stay-from : (session : Session) (old : List Run) (rest : List SchedEntry) (state : SchedState) → Stays old state.runs
+    → Stays old (fold (after_entry session) state rest).runs
 stay-from session old [] state was = was
-stay-from session old (entry ∷ rest) state was = stay-from session old rest (after_entry session state entry) (by-act (Stays old) (stays-stable old) session entry.chair entry.act state was)
+stay-from session old (entry ∷ rest) state was =
+    stay-from session old rest (after_entry session state entry) (by-act (Stays old) (stays-stable old) session entry.chair entry.act state was)
 
 pub stay : RunsStay
 stay session before after rid run there =
     let first : SchedState = state_after session before in
-    let all : state_after session (before ++ after) ≡ fold (after_entry session) first after = fold-append (after_entry session) (opening session) before after in
+    let all : state_after session (before ++ after) ≡ fold (after_entry session) first after =
+    fold-append (after_entry session) (opening session) before after in
     let P : SchedState → Type 0 = λ s. StayIn first.runs s.runs in
     (subst P (sym all) (stay-from session first.runs after first (stays-here first.runs (numbered-after session before))).1) rid run there

@@ -1,8 +1,8 @@
 -- What holds of every lawful history: preemption, and datasets.
-use Rattle.std.specs.Prelude.{◌≡◌, ◌≢◌, ℕ, ◌≤◌, ◌<ℤ◌, Bool, true, false, List, [], ◌∷◌, ◌++◌, filter, fold, length, slice_get, ℤ, if◌then◌else◌, Option, Some, None, IsTrue}
+use Rattle.std.specs.Prelude.{◌≡◌, ℕ, ◌≤◌, ◌<ℤ◌, true, false, List, [], ◌∷◌, ◌++◌, filter, length, slice_get, if◌then◌else◌, Option, Some, None, IsTrue}
 use Rattle.exp_runs.specs.declared.run.Run.{Run}
 use Rattle.exp_runs.specs.declared.run.Status.TheVariants.{Prepared, Paused}
-use Rattle.exp_runs.specs.Keys.{is_of, run_of, some_higher}
+use Rattle.exp_runs.specs.Keys.{run_of, some_higher}
 use Rattle.exp_model.specs.declared.session.Session.{Session}
 use Rattle.exp_model.specs.declared.session.Experiment.{Experiment}
 use Rattle.exp_model.specs.declared.step.HostStep.{HostStep}
@@ -18,37 +18,42 @@ use Rattle.sched_state.specs.declared.entry.Flight.{Flight}
 use Rattle.sched_state.specs.declared.entry.JobName.{JobName}
 use Rattle.sched_state.specs.declared.entry.JobName.TheVariants.{Prepare, Step}
 use Rattle.sched_state.specs.declared.entry.SchedEntry.{SchedEntry}
-use Rattle.sched_state.specs.State.{SchedState, is_step_in, stack_of, top_of}
+use Rattle.sched_state.specs.State.{SchedState, is_step_in, stack_of}
 use Rattle.exp_model.specs.Sessions.{is_session}
 use Rattle.sched_state.specs.Picks.{is_over, next_date, pick}
 use Rattle.sched_state.specs.Lawful.{IsLawful, state_after, after_entry}
+use Rattle.sched_laws.specs.Sound.{is_on}
+
+-- the chair takes the job
+abbrev pub takes : ℕ → JobName → SchedEntry
+takes chair job = record { chair = chair; act = act.Took job }
 
 -- this job is taken next
 abbrev pub and_takes : List SchedEntry → ℕ → JobName → List SchedEntry
-and_takes before chair job = before ++ record { chair = chair; act = act.Took job } ∷ []
+and_takes before chair job = before ++ takes chair job ∷ []
 
--- the run came to be prepared after its due date: somewhere in the history its preparation was taken at such a clock
-abbrev pub WasDue : Session → List SchedEntry → Run → Type 0
-WasDue session history run =
-    (early : List SchedEntry) × (chair : ℕ) × (late : List SchedEntry)
-    × (history ≡ early ++ record { chair = chair; act = act.Took (Prepare run.rid) } ∷ late)
-    × (run.due ≤ (state_after session early).clock)
+-- the run began to prepare, and its due date was reached whenever it did
+pub record BeganWhenDue (session : Session) (history : List SchedEntry) (run : Run) : Type 0 where
+  pub began : (early : List SchedEntry) × (chair : ℕ) × (late : List SchedEntry) × (history ≡ early ++ takes chair (Prepare run.rid) ∷ late)
+  pub due : (early late : List SchedEntry) (chair : ℕ) → history ≡ early ++ takes chair (Prepare run.rid) ∷ late → run.due ≤ (state_after session early).clock
 
--- the lower run lends its core to the upper one
-pub record IsPreempted (session : Session) (before : List SchedEntry) (lower upper : Run) : Type 0 where
-  pub pipeline : upper.pipeline ≡ lower.pipeline
-  pub lower_paused : lower.status ≡ Paused
-  pub upper_prepared : upper.status ≡ Prepared
-  pub higher : lower.priority <ℤ upper.priority
-  pub due : WasDue session before upper
+-- the run comes upon its pipeline's stack by a step of it that is taken: it is prepared, and was due; and each run that stands there
+-- is paused and has a lower priority
+pub record Preempts (session : Session) (before : List SchedEntry) (entry : SchedEntry) (upper : Run) : Type 0 where
+  pub taken : (place : ℕ) × (entry.act ≡ act.Took (Step upper.rid place))
+  pub prepared : upper.status ≡ Prepared
+  pub due : BeganWhenDue session before upper
+  pub over :
+      (lower : Run) → run_of (state_after session before).runs lower.rid ≡ Some lower
+      → is_on (stack_of (state_after session before) upper.pipeline) lower.rid ≡ true
+      → (lower.status ≡ Paused) × (lower.priority <ℤ upper.priority)
 
--- a run that is put above another preempts it
+-- a run that an entry brings upon the stacks preempts those that stand on its pipeline's
 abbrev pub PreemptsByPriority : Type 0
 PreemptsByPriority =
-    (session : Session) (before : List SchedEntry) (chair rid place : ℕ) (lower upper : Run) → IsTrue (is_session session)
-    → IsLawful session (and_takes before chair (Step rid place)) → run_of (state_after session before).runs rid ≡ Some upper
-    → top_of (state_after session before).runs (state_after session before).stack upper.pipeline ≡ Some lower.rid → run_of (state_after session before).runs lower.rid ≡ Some lower
-    → lower.rid ≢ rid → IsPreempted session before lower upper
+    (session : Session) (before : List SchedEntry) (entry : SchedEntry) (rid : ℕ) → IsTrue (is_session session) → IsLawful session (before ++ entry ∷ [])
+    → is_on (state_after session before).stack rid ≡ false → is_on (state_after session (before ++ entry ∷ [])).stack rid ≡ true
+    → (upper : Run) × (run_of (state_after session before).runs rid ≡ Some upper) × Preempts session before entry upper
 
 -- each run of a stack, its top first, has a greater priority than the one below it
 abbrev pub IsRising : SchedState → List ℕ → Type 0
@@ -125,14 +130,17 @@ DatasetsAreSetAndAppended =
 abbrev pub NeverStuck : Type 0
 NeverStuck =
     (session : Session) (history : List SchedEntry) → IsTrue (is_session session) → IsLawful session history
-    → pick session (state_after session history) ≡ None → (state_after session history).flying ≡ [] → next_date (state_after session history) ≡ None → IsTrue (is_over (state_after session history))
+    → pick session (state_after session history) ≡ None → (state_after session history).flying ≡ [] → next_date (state_after session history) ≡ None
+    → IsTrue (is_over (state_after session history))
 
 -- there are never more than 64 runs
 abbrev pub RunsAreFew : Type 0
-RunsAreFew = (session : Session) (history : List SchedEntry) → IsTrue (is_session session) → IsLawful session history → length (state_after session history).runs ≤ 64
+RunsAreFew =
+    (session : Session) (history : List SchedEntry) → IsTrue (is_session session) → IsLawful session history → length (state_after session history).runs ≤ 64
 
--- a run keeps its experiment, its pipeline and its due date, whatever comes after
+-- a run keeps what it was submitted with, whatever comes after
 abbrev pub RunsStay : Type 0
 RunsStay =
     (session : Session) (before after : List SchedEntry) (rid : ℕ) (run : Run) → run_of (state_after session before).runs rid ≡ Some run
-    → (now : Run) × (run_of (state_after session (before ++ after)).runs rid ≡ Some now) × (now.experiment ≡ run.experiment) × (now.pipeline ≡ run.pipeline) × (now.due ≡ run.due)
+    → (now : Run) × (run_of (state_after session (before ++ after)).runs rid ≡ Some now) × (now.experiment ≡ run.experiment)
+    × (now.pipeline ≡ run.pipeline) × (now.due ≡ run.due) × (now.priority ≡ run.priority) × (now.flush ≡ run.flush)

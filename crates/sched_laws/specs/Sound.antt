@@ -1,6 +1,6 @@
 -- What holds of each state that a lawful history leads to: where each run stands, which of its jobs is in flight, and who is
 -- on the stacks.
-use Rattle.std.specs.Prelude.{◌≡◌, ◌<ℤ◌, ℕ, ◌+◌, ◌^◌, ◌≤◌, ◌<◌, Bool, true, false, List, [], ◌∷◌, filter, map, length, ◌==◌, ◌⊎◌, Option, Some, None, IsTrue}
+use Rattle.std.specs.Prelude.{◌≡◌, ◌<ℤ◌, ℕ, ◌+◌, ◌^◌, ◌≤◌, ◌<◌, Bool, true, false, List, [], ◌∷◌, filter, map, length, ◌==◌, ◌⊎◌, Option, Some, IsTrue}
 use Rattle.std.specs.List.{AllByRecursion, list_any}
 use Rattle.exp_runs.specs.declared.run.Run.{Run}
 use Rattle.exp_runs.specs.declared.run.Status.{Status}
@@ -40,7 +40,8 @@ StandsIn steps ahead rid pos jobs on top other = (jobs ≡ []) × (on ≡ false)
 
 abbrev pub Stands : Session → (ℕ → ℕ) → SchedState → Run → Type 0
 Stands session ahead state run =
-    StandsIn (length (run_steps session run)) (ahead run.rid) run.rid run.pos (jobs_of state.flying run.rid) (is_on state.stack run.rid) (top_of state.runs state.stack run.pipeline) run.status
+    StandsIn (length (run_steps session run)) (ahead run.rid) run.rid run.pos (jobs_of state.flying run.rid) (is_on state.stack run.rid)
+    (top_of state.runs state.stack run.pipeline) run.status
 
 -- a run is of a pipeline and an experiment that there are, and due at a moment that may come
 abbrev pub IsRunOf : Session → Run → Type 0

@@ -1,12 +1,11 @@
 -- What is known of the best run.
-use Rattle.std.proofs.Common.{◌≡◌, ℕ, Bool, true, false, List, [], ◌∷◌, cond, filter, fold, refl, sym, ◌∙◌, ap}
+use Rattle.std.proofs.Common.{◌≡◌, ℕ, Bool, true, false, List, [], ◌∷◌, cond, filter, fold, sym, ◌∙◌, ap}
 use Rattle.std.specs.Prelude.{Option, Some, None, option_map}
-use Rattle.std.specs.List.{All, AllByRecursion, Contains}
+use Rattle.std.specs.List.{AllByRecursion, Contains}
 use Rattle.std.specs.Ordering.{is_lt}
 use Rattle.std.proofs.lemmas.List.Elements.{recursion_from_All, All-filter, All-contains_itself, filter_passes}
 use Rattle.exp_runs.specs.declared.run.Run.{Run}
 use Rattle.exp_runs.specs.Keys.{key_cmp, greater, greatest, best, run_of}
-use Rattle.sched_state.specs.State.{passes}
 use Rattle.sched_state.specs.Boards.{AreNumbered}
 use Rattle.sched_state.proofs.Numbered.{found-at}
 

@@ -1,11 +1,10 @@
 -- Sessions of one worker, computed: each kernel returns and sets nothing.
-use Rattle.std.proofs.Common.{◌≡◌, ℕ, zero, suc, ◌+◌, refl, List, [], ◌∷◌, ◌++◌, Bool, true, false, map}
-use Rattle.std.specs.Prelude.{ℤ, pos, Option, Some, None, filter_map, option_map}
+use Rattle.std.proofs.Common.{◌≡◌, ℕ, zero, suc, ◌+◌, refl, List, [], ◌∷◌, ◌++◌, false, map}
+use Rattle.std.specs.Prelude.{ℤ, pos, Option, Some, None, filter_map}
 use Rattle.rtio_types.specs.declared.outcome.Outcome.TheVariants as outcome
 use Rattle.exp_runs.specs.declared.run.Run.{Run}
 use Rattle.exp_runs.specs.declared.run.Status.{Status}
 use Rattle.exp_runs.specs.declared.run.Status.TheVariants as status
-use Rattle.exp_runs.specs.Keys.{run_of}
 use Rattle.exp_model.specs.declared.session.Session.{Session}
 use Rattle.exp_model.specs.declared.arrival.Arrival.{Arrival}
 use Rattle.exp_model.specs.declared.arrival.ArrivalAct.{ArrivalAct}
@@ -13,13 +12,11 @@ use Rattle.exp_model.specs.declared.arrival.ArrivalAct.TheVariants.{Submit, Dele
 use Rattle.exp_model.specs.declared.session.Experiment.{Experiment}
 use Rattle.exp_model.specs.declared.step.HostStep.{HostStep}
 use Rattle.exp_model.specs.declared.step.HostStep.TheVariants as step
-use Rattle.exp_model.specs.declared.arrival.Submission.{Submission}
 use Rattle.sched_state.specs.declared.entry.JobName.{JobName}
 use Rattle.sched_state.specs.declared.entry.JobName.TheVariants.{Prepare, Step, Analyze}
 use Rattle.sched_state.specs.declared.entry.KernelResult.{KernelResult}
 use Rattle.sched_state.specs.declared.entry.SchedAct.{SchedAct}
 use Rattle.sched_state.specs.declared.entry.SchedAct.TheVariants.{Took, Prepared, Stepped, Analyzed, Jumped}
-use Rattle.sched_state.specs.declared.entry.SchedEntry.{SchedEntry}
 use Rattle.sched_state.specs.declared.entry.StepWord.{StepWord}
 use Rattle.sched_state.specs.declared.entry.StepWord.TheVariants as word
 use Rattle.sched_state.specs.State.{SchedState}

@@ -7,3 +7,5 @@ pub mod Moves
 pub mod Clocked
 pub mod Openings
 pub mod Stored
+pub mod Moved
+pub mod Stepped

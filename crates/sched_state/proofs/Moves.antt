@@ -1,6 +1,6 @@
 -- Changes of a state.
-use Rattle.std.proofs.Common.{◌≡◌, ℕ, Bool, true, false, refl, sym, ◌∙◌, ap, cond}
-use Rattle.std.specs.Prelude.{Option, Some, None, Result, Ok, Err, OnOk}
+use Rattle.std.proofs.Common.{◌≡◌, ℕ, Bool, false, ◌∙◌, ap, cond}
+use Rattle.std.specs.Prelude.{Some, Result, Ok, Err, OnOk}
 use Rattle.exp_runs.specs.declared.run.Run.{Run}
 use Rattle.exp_runs.specs.declared.run.Status.TheVariants.{Deleted}
 use Rattle.exp_runs.specs.Keys.{run_of}

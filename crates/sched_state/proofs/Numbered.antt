@@ -1,13 +1,12 @@
 -- Runs stand by their numbers in every history.
-use Rattle.std.proofs.Common.{◌≡◌, ◌≢◌, ℕ, zero, suc, ◌+◌, ◌<◌, ◌≤◌, Bool, true, false, List, [], ◌∷◌, ◌++◌, cond, filter, fold, map, length, get_or, refl, sym, ◌∙◌, ap, arith, subst, inl, inr}
-use Rattle.std.specs.Prelude.{Option, Some, None, find, ◌==◌, ◌⊎◌, slice_get, slice_index_or}
+use Rattle.std.proofs.Common.{◌≡◌, ◌≢◌, ℕ, zero, suc, ◌+◌, ◌<◌, ◌≤◌, Bool, true, false, List, [], ◌∷◌, ◌++◌, cond, length, refl, sym, ◌∙◌, ap, arith, inl, inr}
+use Rattle.std.specs.Prelude.{Some, None, ◌==◌, ◌⊎◌, slice_index_or}
 use Rattle.std.proofs.lemmas.Bool.{eq-eqb}
 use Rattle.std.proofs.lemmas.Bool.Decides.{eqb_tells}
 use Rattle.exp_runs.specs.declared.run.Run.{Run}
-use Rattle.exp_runs.specs.declared.run.Status.{Status}
 use Rattle.exp_runs.specs.Keys.{run_of}
 use Rattle.exp_runs.specs.Table.{changed}
-use Rattle.sched_state.specs.Boards.{AreNumberedFrom, AreNumbered}
+use Rattle.sched_state.specs.Boards.{AreNumberedFrom}
 
 kept-at : (change : Run → Run) → ((r : Run) → (change r).rid ≡ r.rid) → (b : Bool) (r : Run) → (cond b (change r) r).rid ≡ r.rid
 kept-at change same true r = same r

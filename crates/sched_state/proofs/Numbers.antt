@@ -1,5 +1,5 @@
 -- Runs stand by their numbers after every history.
-use Rattle.std.proofs.Common.{◌≡◌, ℕ, ◌+◌, Bool, true, false, List, [], ◌∷◌, ◌++◌, cond, fold, filter, length, refl, arith}
+use Rattle.std.proofs.Common.{◌≡◌, ℕ, ◌+◌, Bool, true, false, List, [], ◌∷◌, cond, fold, filter, length, refl, arith}
 use Rattle.std.specs.Prelude.{Option, Some, None, slice_get, nat_lt, not, ◌&&◌, ◌||◌}
 use Rattle.rtio_types.specs.declared.outcome.Outcome.{Outcome}
 use Rattle.rtio_types.specs.declared.outcome.Outcome.TheVariants as outcome
@@ -25,13 +25,13 @@ use Rattle.sched_state.specs.declared.entry.SchedAct.TheVariants as act
 use Rattle.sched_state.specs.declared.entry.SchedEntry.{SchedEntry}
 use Rattle.sched_state.specs.declared.entry.StepWord.TheVariants as word
 use Rattle.sched_state.specs.State.{SchedState, passes, with_run, off_stack, landed}
-use Rattle.sched_state.specs.Arrivals.{has_come, new_run, submitted, is_busy, deleted, deleted_run, doomed, ordered_to_end, terminated, terminated_run, arrived, at_clock, opening}
-use Rattle.sched_state.specs.Picks.{begun, taken}
+use Rattle.sched_state.specs.Arrivals.{has_come, new_run, submitted, is_busy, deleted, deleted_run, doomed, ordered_to_end, terminated_run, arrived, at_clock, opening}
+use Rattle.sched_state.specs.Picks.{taken}
 use Rattle.dataset_db.specs.Datasets.{Change}
 use Rattle.sched_state.specs.Datasets.{Stage, stage, changes_by}
-use Rattle.sched_state.specs.Reports.{Effect, after_stage, moved_on, steps_of, run_steps, staged, staged_run, refused, is_full, fails, goes_on, after_kernel, paused, checked, effect, after_storing, settle, settled, status_then, run_effect, step_effect, step_effect_of, after_clock}
+use Rattle.sched_state.specs.Reports.{Effect, after_stage, moved_on, steps_of, run_steps, staged, staged_run, is_full, fails, goes_on, after_kernel, effect, after_storing, settle, status_then, run_effect, step_effect, step_effect_of, after_clock}
 use Rattle.sched_state.specs.Lawful.{after_act, after_entry, state_after}
-use Rattle.sched_state.specs.Boards.{AreNumberedFrom, AreNumbered}
+use Rattle.sched_state.specs.Boards.{AreNumbered}
 use Rattle.sched_state.proofs.Numbered.{changed-numbered, pushed-numbered}
 
 abbrev pub Numbers : SchedState → Type 0

@@ -1,10 +1,9 @@
 -- What a session that is served gives.
-use Rattle.std.proofs.Common.{◌≡◌, ℕ, ◌<◌, ◌≤◌, Bool, true, false, List, [], ◌∷◌, refl}
+use Rattle.std.proofs.Common.{◌≡◌, ◌<◌, ◌≤◌, Bool, true, false, List, [], ◌∷◌, refl}
 use Rattle.std.specs.Prelude.{IsTrue, ◌&&◌, nat_le, nat_lt, length, ◌^◌, int_le, pos, negsuc, count_by}
 use Rattle.std.specs.List.{AllByRecursion, list_all}
 use Rattle.std.proofs.lemmas.Bool.{ltb-true, leb-true}
 use Rattle.exp_model.specs.declared.session.Session.{Session}
-use Rattle.exp_model.specs.declared.session.Experiment.{Experiment}
 use Rattle.exp_model.specs.declared.arrival.Arrival.{Arrival}
 use Rattle.exp_model.specs.declared.arrival.ArrivalAct.{ArrivalAct}
 use Rattle.exp_model.specs.declared.arrival.ArrivalAct.TheVariants.{Submit, Delete, Terminate}

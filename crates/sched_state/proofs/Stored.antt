@@ -1,5 +1,5 @@
 -- The steps of a stage, one by one.
-use Rattle.std.proofs.Common.{◌≡◌, ℕ, ◌+◌, ◌<◌, Bool, true, false, cond, List, [], ◌∷◌, ◌++◌, drop, length, get_or, map, refl, sym, ◌∙◌, ap, subst, drop-cons, add-one}
+use Rattle.std.proofs.Common.{◌≡◌, ℕ, ◌+◌, ◌<◌, true, false, cond, List, [], ◌∷◌, ◌++◌, drop, length, get_or, refl, sym, ◌∙◌, ap, subst, drop-cons, add-one}
 use Rattle.std.specs.Prelude.{Option, Some, None}
 use Rattle.exp_runs.specs.declared.run.Run.{Run}
 use Rattle.exp_runs.specs.declared.run.Status.{Status}
@@ -9,12 +9,11 @@ use Rattle.exp_runs.specs.Table.{with_status}
 use Rattle.exp_model.specs.declared.arrival.Arrival.{Arrival}
 use Rattle.exp_model.specs.declared.step.HostStep.{HostStep}
 use Rattle.dataset_db.specs.Datasets.{Change, Dataset, after, datasets_after}
-use Rattle.sched_state.specs.declared.entry.DataSet.{DataSet}
-use Rattle.sched_state.specs.Datasets.{Stage, changes_by, kernel_changes, stage, stage_after}
+use Rattle.sched_state.specs.Datasets.{Stage, changes_by, stage, stage_after}
 use Rattle.sched_state.specs.declared.board.Board.{Board}
 use Rattle.sched_state.specs.State.{SchedState, found_passes, landed, with_run}
 use Rattle.sched_state.specs.Reports.{after_stage, refused}
-use Rattle.sched_state.specs.Boards.{HasStored, IsStored, staged_by, state_with}
+use Rattle.sched_state.specs.Boards.{IsStored, staged_by, state_with}
 
 pub after-append : (a b : List Change) (datasets : List Dataset) → datasets_after (a ++ b) datasets ≡ datasets_after b (datasets_after a datasets)
 after-append [] b datasets = refl

@@ -1,11 +1,11 @@
 -- What the steps of a run do to datasets.
-use Rattle.std.specs.Prelude.{ℕ, ℤ, Bool, true, false, List, [], ◌∷◌, ◌++◌, map, if◌then◌else◌, Option, Some, None, option_map}
+use Rattle.std.specs.Prelude.{ℕ, ℤ, Bool, true, false, List, [], ◌∷◌, ◌++◌, map, if◌then◌else◌, Option, Some, None}
 use Rattle.rtio_types.specs.declared.request.Value.{Value}
 use Rattle.rtio_types.specs.declared.request.Value.TheVariants as value
 use Rattle.exp_model.specs.declared.step.HostStep.{HostStep}
 use Rattle.exp_model.specs.declared.step.HostStep.TheVariants.{Set, Append, Sum}
 use Rattle.dataset_db.specs.declared.datasets.Flags.{Flags}
-use Rattle.dataset_db.specs.Datasets.{Dataset, Change, set, append, after, datasets_after, is_list, sum_of, value_of}
+use Rattle.dataset_db.specs.Datasets.{Dataset, Change, set, append, datasets_after, is_list, sum_of, value_of}
 use Rattle.sched_state.specs.declared.entry.DataSet.{DataSet}
 
 -- what is set without a word on its flags is archived

@@ -1,6 +1,5 @@
 -- Which histories a scheduler may have.
-use Rattle.std.specs.Prelude.{◌≡◌, ℕ, ◌+◌, Bool, true, false, ◌&&◌, List, [], ◌∷◌, ◌++◌, fold, slice_get, ◌==◌, Option, Some, None, option_map, IsTrue}
-use Rattle.std.specs.List.{list_any}
+use Rattle.std.specs.Prelude.{◌≡◌, ℕ, ◌+◌, Bool, true, false, List, [], ◌∷◌, ◌++◌, fold, slice_get, Option, Some, None, option_map}
 use Rattle.exp_runs.specs.declared.run.Run.{Run}
 use Rattle.exp_runs.specs.Keys.{run_of}
 use Rattle.exp_model.specs.declared.session.Session.{Session}
@@ -13,11 +12,10 @@ use Rattle.sched_state.specs.declared.entry.KernelResult.{KernelResult}
 use Rattle.sched_state.specs.declared.entry.SchedAct.{SchedAct}
 use Rattle.sched_state.specs.declared.entry.SchedAct.TheVariants.{Took, Prepared, Stepped, Analyzed, SourceRefused, Jumped, Halted}
 use Rattle.sched_state.specs.declared.entry.SchedEntry.{SchedEntry}
-use Rattle.sched_state.specs.declared.entry.StepWord.{StepWord}
 use Rattle.sched_state.specs.State.{SchedState}
 use Rattle.sched_state.specs.Arrivals.{at_clock, opening}
 use Rattle.sched_state.specs.Picks.{pick, taken, next_date}
-use Rattle.sched_state.specs.Reports.{Effect, prepared, analyzed, refused, run_steps, step_effect}
+use Rattle.sched_state.specs.Reports.{prepared, analyzed, refused, run_steps, step_effect}
 
 -- what an entry changes
 abbrev pub after_act : Session → ℕ → SchedAct → SchedState → SchedState

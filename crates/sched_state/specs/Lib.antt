@@ -6,3 +6,4 @@ pub mod Reports
 pub mod Lawful
 pub mod Boards
 pub mod Looks
+pub mod Stepped

@@ -1,5 +1,5 @@
 -- What there is to do in a state.
-use Rattle.std.specs.Prelude.{◌≡◌, ◌≢◌, ℕ, Bool, true, false, List, [], Some, None}
+use Rattle.std.specs.Prelude.{◌≡◌, ◌≢◌, true, false, [], Some, None}
 use Rattle.exp_model.specs.declared.session.Session.{Session}
 use Rattle.sched_state.specs.declared.looking.Look.{Look}
 use Rattle.sched_state.specs.declared.looking.Look.TheVariants.{Over, Due, Wait, Jump, Stuck}

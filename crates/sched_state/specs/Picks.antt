@@ -1,5 +1,5 @@
 -- Which job is due.
-use Rattle.std.specs.Prelude.{ℕ, Bool, true, false, ◌&&◌, ◌||◌, not, List, [], ◌∷◌, ◌++◌, map, filter, fold, length, min, slice_get, nat_le, nat_lt, ◌==◌, ◌≤ℤ◌, int_lt, if◌then◌else◌, Option, Some, None, option_map}
+use Rattle.std.specs.Prelude.{ℕ, Bool, false, ◌&&◌, not, List, [], ◌∷◌, ◌++◌, map, filter, fold, length, min, slice_get, nat_lt, ◌==◌, int_lt, if◌then◌else◌, Option, Some, None, option_map}
 use Rattle.std.specs.List.{list_any, list_all, range_with_len}
 use Rattle.exp_runs.specs.declared.run.Run.{Run}
 use Rattle.exp_runs.specs.declared.run.Status.TheVariants.{Preparing, Running, Analyzing}

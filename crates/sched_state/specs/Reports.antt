@@ -1,12 +1,11 @@
 -- What the report of a job changes.
-use Rattle.std.specs.Prelude.{ℕ, ◌+◌, Bool, true, false, ◌&&◌, not, List, [], ◌∷◌, count_by, length, nat_le, nat_lt, slice_get, ◌==◌, if◌then◌else◌, Option, Some, None, option_map}
+use Rattle.std.specs.Prelude.{ℕ, ◌+◌, Bool, ◌&&◌, List, [], count_by, length, nat_le, nat_lt, slice_get, if◌then◌else◌, Option, Some, None}
 use Rattle.rtio_types.specs.declared.outcome.Outcome.{Outcome}
 use Rattle.rtio_types.specs.declared.outcome.Outcome.TheVariants as outcome
 use Rattle.exp_runs.specs.declared.run.Run.{Run}
 use Rattle.exp_runs.specs.declared.run.Status.{Status}
 use Rattle.exp_runs.specs.declared.run.Status.TheVariants as status
 use Rattle.exp_runs.specs.Keys.{run_of, some_higher}
-use Rattle.exp_runs.specs.Statuses.{is_running}
 use Rattle.exp_runs.specs.Table.{with_status}
 use Rattle.exp_model.specs.declared.session.Session.{Session}
 use Rattle.exp_model.specs.declared.arrival.Arrival.{Arrival}
@@ -14,8 +13,7 @@ use Rattle.exp_model.specs.Sessions.{submits}
 use Rattle.exp_model.specs.declared.session.Experiment.{Experiment}
 use Rattle.exp_model.specs.declared.step.HostStep.{HostStep}
 use Rattle.exp_model.specs.declared.step.HostStep.TheVariants as step
-use Rattle.exp_model.specs.declared.arrival.Submission.{Submission}
-use Rattle.dataset_db.specs.Datasets.{Dataset, Change, datasets_after}
+use Rattle.dataset_db.specs.Datasets.{Change, datasets_after}
 use Rattle.sched_state.specs.declared.entry.KernelResult.{KernelResult}
 use Rattle.sched_state.specs.declared.entry.StepWord.{StepWord}
 use Rattle.sched_state.specs.declared.entry.StepWord.TheVariants as word

@@ -1,11 +1,10 @@
 -- The state of a scheduler.
-use Rattle.std.specs.Prelude.{ℕ, Bool, true, false, ◌&&◌, not, List, [], ◌∷◌, filter, find, ◌==◌, Option, Some, None, option_map}
+use Rattle.std.specs.Prelude.{ℕ, Bool, false, not, List, filter, find, ◌==◌, Option, Some, None}
 use Rattle.std.specs.List.{list_any}
 use Rattle.exp_runs.specs.declared.run.Run.{Run}
 use Rattle.exp_runs.specs.declared.run.Status.{Status}
 use Rattle.exp_runs.specs.Keys.{is_of, run_of}
 use Rattle.exp_runs.specs.Table.{changed, with_status}
-use Rattle.exp_model.specs.declared.session.Session.{Session}
 use Rattle.exp_model.specs.declared.arrival.Arrival.{Arrival}
 use Rattle.dataset_db.specs.Datasets.{Dataset}
 use Rattle.sched_state.specs.declared.entry.Flight.{Flight}

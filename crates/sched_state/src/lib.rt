@@ -6,11 +6,13 @@
 mod advancing;
 mod arriving;
 mod board;
+mod ending;
 mod entry;
 mod looking;
 mod opening;
 mod picking;
 mod reporting;
+mod stepping;
 mod storing;
 
 pub use board::Board;

@@ -1,32 +1,18 @@
 // What the reports of jobs change.
 
-ghost use Rattle.std.specs.Prelude.{◌≡◌, ◌≤◌, ◌<◌, ◌+◌, ◌^◌, ◌&&◌, List, [], length, drop, nat_le, if◌then◌else◌, Some, None, IfOk, OnOk, IsSome, IsTrue};
-ghost use Rattle.exp_runs.specs.declared.run.Run.{Run};
+ghost use Rattle.std.specs.Prelude.{◌≡◌, List, if◌then◌else◌, Some, IfOk, OnOk, IsSome};
 ghost use Rattle.exp_runs.specs.declared.run.Status.TheVariants as status;
 ghost use Rattle.exp_runs.specs.Keys.{run_of};
 ghost use Rattle.exp_model.specs.declared.arrival.Arrival.{Arrival};
-ghost use Rattle.exp_model.specs.Sessions.{is_session};
-ghost use Rattle.dataset_db.specs.Datasets.{Dataset};
-ghost use Rattle.sched_state.specs.Arrivals.{at_clock};
-ghost use Rattle.sched_state.specs.Reports.{moved_on, refused, run_steps, status_then, settle, submissions_left, step_effect, run_effect, effect, after_kernel};
-ghost use Rattle.sched_state.specs.State.{with_run};
-ghost use Rattle.sched_state.specs.Boards.{AreNumbered, Becomes, IsActFor, state_of, state_with, staged_by};
+ghost use Rattle.sched_state.specs.Reports.{refused};
+ghost use Rattle.sched_state.specs.Boards.{Becomes, state_with, staged_by};
 
 use crate::board::Board;
-use crate::entry::{KernelResult, StepWord};
-use crate::storing::{store, store_all, store_sets};
+use crate::storing::store_all;
 use dataset_db::Datasets;
-use exp_model::{Arrival, ArrivalAct, HostStep, Session, Submission};
+use exp_model::HostStep;
 use exp_runs::{Run, Status};
-use rtio_types::Outcome;
 use std::alloc::{AllocError, Global};
-
-/// What a step comes to: its word, and where the run stands then.
-#[derive(Clone, Copy, Debug)]
-pub struct StepEnd {
-    pub word: StepWord,
-    pub status: Status,
-}
 
 // Where a run stands after a stage.
 fn stage_status(fine: bool, next: Status) -> Status

@@ -1,4 +1,4 @@
-use Rattle.std.proofs.Common.{◌≡◌, ◌-◌, ◌≤◌, List}
+use Rattle.std.proofs.Common.{◌≡◌, ◌-◌, List}
 use Rattle.std.specs.List.{range_with_len}
 use Rattle.exp_model.specs.declared.arrival.Arrival.{Arrival}
 use Rattle.sched_state.specs.Picks.{analyzing, first_with}

@@ -1,6 +1,6 @@
 use Rattle.std.proofs.Common.{◌≡◌, ◌<◌, ℕ, ◌∙◌, sym, refl, arith}
 use Rattle.std.specs.Prelude.{Option, Some, None}
-use Rattle.sched_state.specs.Picks.{stepping, first_with}
+use Rattle.sched_state.specs.Picks.{stepping}
 use Rattle.sched_state.specs.Boards.{state_with}
 use Rattle.sched_state.proofs.Firsts.{first-here, first-next}
 use Rattle.sched_state.proofs.picking.first_step.Goals as goal

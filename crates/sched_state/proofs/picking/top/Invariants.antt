@@ -1,7 +1,5 @@
 use Rattle.std.proofs.Common.{◌≡◌, drop}
-use Rattle.std.specs.Prelude.{find}
-use Rattle.exp_runs.specs.Keys.{is_of}
-use Rattle.sched_state.specs.State.{passes, top_of}
+use Rattle.sched_state.specs.State.{top_of}
 use Rattle.sched_state.proofs.picking.top.Given as goal
 
 -- what is still to come decides

@@ -1,4 +1,4 @@
-use Rattle.std.proofs.Common.{◌≡◌, ◌<◌, Bool, length, sym, ◌∙◌, subst, arith}
+use Rattle.std.proofs.Common.{◌<◌, Bool, length, sym, ◌∙◌, subst, arith}
 use Rattle.sched_state.specs.Boards.{IsStored}
 use Rattle.sched_state.specs.Datasets.{changes_by}
 use Rattle.sched_state.proofs.Stored.{stage-done, stage-failed}

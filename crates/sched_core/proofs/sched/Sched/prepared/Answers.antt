@@ -86,3 +86,19 @@ returns-then-source-clause-why g c =
     let foreign : W (why.Foreign c.source_of-source.result) = (c.in-Ok.ensures.flying, run, c.in-Ok.ensures.run, subst S c.self.view_is (c.source_of-source.ensures fit.experiment), λ e. c.if-source.true (c.source.ensures ∙ sym e)) in
     let is : c.refused-then-source.result.why ≡ why.Foreign c.source_of-source.result = ap (λ (r : Refused g.row.P.Denot). r.why) c.refused-then-source.ensures in
     subst W (sym is) foreign
+
+pub returns-in-Err-write_prepared-clause-why : goal.returns-in-Err-write_prepared-clause-why
+returns-in-Err-write_prepared-clause-why g c =
+    let run = c.in-Ok.run' in
+    let R : SchedValue → Type 0 = λ v. run_of (sched_state v).runs c.args.rid ≡ Some run in
+    let here = subst R (sym c.self.view_is) c.in-Ok.ensures.run in
+    let a = c.self.inside in
+    let sound = sound-after a.session a.entries.items c.self.invariant.session c.self.invariant.lawful in
+    let fit : IsRunOf a.session run = found-has (IsRunOf a.session) (state_after a.session a.entries.items).runs c.args.rid run sound.fit here in
+    let told = c.source_of-source.ensures fit.experiment in
+    let same : source_of_run a.session run ≡ Some (g.P.Payload.source_of c.args.kit) = told ∙ ap Some (sym c.if-source.false ∙ c.source.ensures) in
+    let S : SchedValue → Type 0 = λ v. source_of_run v.session run ≡ Some (g.P.Payload.source_of c.args.kit) in
+    let W : Why → Type 0 = λ w. IsWhy c.args.self.now.session (sched_state c.args.self.now) (name.Prepare c.args.rid) (Some (g.P.Payload.source_of c.args.kit)) w in
+    let memory : W why.Memory = (c.in-Ok.ensures.flying, (run, c.in-Ok.ensures.run, subst S c.self.view_is same)) in
+    let is : c.refused-in-Err-write_prepared.result.why ≡ why.Memory = ap (λ (r : Refused g.row.P.Denot). r.why) c.refused-in-Err-write_prepared.ensures in
+    subst W (sym is) memory

@@ -1,10 +1,9 @@
-use Rattle.std.proofs.Common.{◌≡◌, ◌≤◌, ◌<◌, ◌+◌, ℕ, List, [], length, drop, refl, sym, ◌∙◌, ap, arith, subst}
+use Rattle.std.proofs.Common.{◌≡◌, ◌≤◌, ◌<◌, ◌+◌, ℕ, List, [], length, drop, sym, ◌∙◌, ap, arith, subst}
 use Rattle.std.specs.Prelude.{slice_index_or}
 use Rattle.exp_model.specs.declared.arrival.Arrival.{Arrival}
 use Rattle.dataset_db.specs.Datasets.{Dataset}
 use Rattle.sched_state.specs.State.{SchedState}
-use Rattle.sched_state.specs.Arrivals.{arrived}
-use Rattle.sched_state.specs.Boards.{AreNumbered, no_arrival, state_with}
+use Rattle.sched_state.specs.Boards.{no_arrival, state_with}
 use Rattle.sched_state.proofs.Numbered.{none-past}
 use Rattle.sched_state.proofs.Numbers.{Numbers, by-arrival}
 use Rattle.sched_state.proofs.Clocked.{come, to_come, taken_in, step-rest, step-state, stop-here, in-order}

@@ -1,4 +1,4 @@
-use Rattle.std.proofs.Common.{◌≡◌, refl, sym, ◌∙◌, ap}
+use Rattle.std.proofs.Common.{sym, ◌∙◌, ap}
 use Rattle.sched_state.specs.Arrivals.{arrived}
 use Rattle.sched_state.specs.Boards.{state_with}
 use Rattle.sched_state.proofs.Moves.{ok-map}

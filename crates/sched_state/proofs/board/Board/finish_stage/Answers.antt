@@ -1,4 +1,4 @@
-use Rattle.std.proofs.Common.{◌≡◌, cond, sym, ◌∙◌, ap}
+use Rattle.std.proofs.Common.{cond, sym, ◌∙◌, ap}
 use Rattle.exp_runs.specs.declared.run.Status.TheVariants.{Deleted, Failed}
 use Rattle.exp_runs.specs.Table.{with_status}
 use Rattle.sched_state.specs.State.{with_run}

@@ -1,4 +1,4 @@
-use Rattle.std.proofs.Common.{◌≡◌, ℕ, List, [], rules, length, ap, refl, sym, ◌∙◌, subst}
+use Rattle.std.proofs.Common.{◌≡◌, ℕ, List, [], rules, length, ap, sym, ◌∙◌, subst}
 use Rattle.std.specs.List.{AllByRecursion}
 use Rattle.exp_runs.specs.Table.{RunTable}
 use Rattle.exp_model.specs.declared.arrival.Arrival.{Arrival}

@@ -1,4 +1,4 @@
-use Rattle.std.proofs.Common.{◌≡◌, sym, ◌∙◌, ap}
+use Rattle.std.proofs.Common.{◌∙◌, ap}
 use Rattle.exp_runs.specs.Table.{with_status}
 use Rattle.sched_state.specs.State.{with_run}
 use Rattle.sched_state.specs.Boards.{state_with}
