@@ -1,7 +1,8 @@
-mod Members
-mod Orders
-mod Done
-mod Sorts
-mod PutOut
-mod Lawful
+mod Lists
+mod Submitting
+mod Placed
+mod Grouped
+mod Kept
+mod Headlines
+mod Few
 mod Examples

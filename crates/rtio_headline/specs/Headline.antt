@@ -1,64 +1,70 @@
--- What a core puts out, in the words of who asked for it: by the replies that it gave and by what its log names.
-use Rattle.std.specs.Prelude.{◌≡◌, ◌↔◌, ℕ, ◌+◌, ◌≤◌, Bool, true, false, ◌==◌, ◌&&◌, ◌||◌, not, List, [], ◌∷◌, ◌++◌, map, filter, nat_le, nat_lt, int_lt}
-use Rattle.std.specs.List.{list_any}
+-- What a core puts out, in the words of what it was asked.
+use Rattle.std.specs.Prelude.{◌≡◌, ℕ, ◌≤◌, ◌<◌, ◌⊎◌, ◌↔◌, Bool, true, false, ◌&&◌, ◌||◌, List, [], ◌∷◌, ◌++◌, map, count_by, nat_lt, int_lt, IsTrue}
 use Rattle.std.specs.Ordering.{int_eq}
 use Rattle.rtio_types.specs.declared.event.Event.{Event}
 use Rattle.rtio_types.specs.declared.request.Request.TheVariants as ask
 use Rattle.rtio_types.specs.declared.request.Reply.TheVariants as answer
+use Rattle.rtio_types.specs.Board.{replaces}
 use Rattle.rtio_types.specs.Time.{cycle_of}
-use Rattle.sed_lanes.specs.Sorting.{sorted}
-use Rattle.output_merge.specs.declared.group.Part.{Part}
-use Rattle.output_merge.specs.declared.group.Part.TheVariants.{Keeper, Overridden, Collision}
-use Rattle.output_merge.specs.Groups.{is_put_out_before, part_of}
-use Rattle.output_merge.specs.Live.{live}
 use Rattle.output_merge.specs.Outputs.{LogLists}
 use Rattle.rtio_core.specs.declared.data.Act.{Act}
 use Rattle.rtio_core.specs.declared.data.Act.TheVariants.{Asked}
-use Rattle.rtio_core.specs.declared.data.Config.{Config}
 use Rattle.rtio_core.specs.declared.data.Entry.{Entry}
-use Rattle.rtio_core.specs.Entries.{judged_history}
 use Rattle.rtio_core.specs.Reply.{outputs_at}
 use Rattle.rtio_core.specs.Told.{log_at}
+use Rattle.rtio_core.specs.Core.{CoreState}
 
--- the number of the next output: outputs are numbered from 0, in the order of their replies
-abbrev pub number_after : ℕ → Act → ℕ
-number_after number (Asked (ask.Out e) reply at) = number + 1
-number_after number act = number
+-- the act asks for an output
+abbrev pub is_output_act : Act → Bool
+is_output_act (Asked (ask.Out e) reply at) = true
+is_output_act act = false
 
--- the output of an entry with its number, if it is done: one that comes too late isn't
-abbrev pub done_by : ℕ → Act → List (ℕ × Event)
-done_by number (Asked (ask.Out e) answer.Done at) = (number, e) ∷ []
-done_by number act = []
+-- how many outputs some entries asked for
+abbrev pub outputs_asked : List Entry → ℕ
+outputs_asked history = count_by (λ (entry : Entry). is_output_act entry.act) history
 
-abbrev pub done_from : ℕ → List Entry → List (ℕ × Event)
-done_from number [] = []
-done_from number (entry ∷ rest) = done_by number entry.act ++ done_from (number_after number entry.act) rest
+-- the output that an act submitted: it was asked for and answered Done
+abbrev pub done_output : (number : ℕ) → Act → List (ℕ × Event)
+done_output number (Asked (ask.Out e) answer.Done at) = (number, e) ∷ []
+done_output number act = []
 
--- all outputs of a history that are done
-abbrev pub done_outputs : List Entry → List (ℕ × Event)
-done_outputs history = done_from 0 history
+-- the outputs that some entries behind others submitted, each with its number: how many outputs were asked before it, those that
+-- came too late among them
+abbrev pub submitted_behind : (before rest : List Entry) → List (ℕ × Event)
+submitted_behind before [] = []
+submitted_behind before (entry ∷ rest) = done_output (outputs_asked before) entry.act ++ submitted_behind (before ++ entry ∷ []) rest
 
--- some of the events have this one's number
-abbrev pub names : List (ℕ × Event) → ℕ × Event → Bool
-names events p = list_any (λ q. q.0 == p.0) events
+-- the outputs that a history submitted
+abbrev pub submitted : List Entry → List (ℕ × Event)
+submitted history = submitted_behind [] history
 
--- the log names the event: as sequence error, collision, busy or cleared
-abbrev pub is_logged : LogLists → ℕ × Event → Bool
-is_logged log p = names log.sequence p || (names log.collided p || (names log.busy p || names log.cleared p))
+-- an event with its number is one of a list
+abbrev pub IsAmong : ℕ × Event → List (ℕ × Event) → Type 0
+IsAmong p [] = ⊥
+IsAmong p (q ∷ rest) = (p ≡ q) ⊎ IsAmong p rest
 
-abbrev pub is_overridden : Part → Bool
-is_overridden Overridden = true
-is_overridden part = false
+-- on a channel that replaces, an event is overridden by a later one of the channel with its stamp that isn't out of sequence
+pub record IsOverridden (events : List (ℕ × Event)) (log : LogLists) (p : ℕ × Event) : Type 0 where
+  pub replacing : IsTrue (replaces p.1.channel)
+  pub other : ℕ × Event
+  pub asked : IsAmong other events
+  pub in_sequence : ¬ IsAmong other log.sequence
+  pub later : p.0 < other.0
+  pub channel : other.1.channel ≡ p.1.channel
+  pub stamp : other.1.stamp ≡ p.1.stamp
 
--- an event is put out: the counter has reached its cycle, the log doesn't name it, and no later event of its channel and
--- timestamp took its place
-abbrev pub is_put_out : Config → List Entry → ℕ → ℕ × Event → Bool
-is_put_out config history counter p =
-    nat_le (cycle_of p.1) counter
-    && (not (is_logged (log_at config history counter) p)
-    && not (is_overridden (part_of (live (judged_history config history)) p)))
+-- the log names an event: as a sequence error, a collision, busy or cleared
+abbrev pub IsNamed : LogLists → ℕ × Event → Type 0
+IsNamed log p = IsAmong p log.sequence ⊎ (IsAmong p log.collided ⊎ (IsAmong p log.busy ⊎ IsAmong p log.cleared))
 
--- by timestamp, and of one timestamp by channel
+-- an event is put out: it was submitted, the counter has reached its cycle, and it is neither overridden nor named by the log
+pub record IsPutOut (core : CoreState) (p : ℕ × Event) : Type 0 where
+  pub asked : IsAmong p (submitted core.history)
+  pub reached : cycle_of p.1 ≤ core.counter
+  pub kept : ¬ IsOverridden (submitted core.history) (log_at core.config core.history core.counter) p
+  pub unnamed : ¬ IsNamed (log_at core.config core.history core.counter) p
+
+-- by stamp, and of one stamp by channel
 abbrev pub is_before : Event → Event → Bool
 is_before e f = int_lt e.stamp f.stamp || (int_eq e.stamp f.stamp && nat_lt e.channel f.channel)
 
@@ -68,18 +74,23 @@ AreInOrder [] = Unit {0}
 AreInOrder (e ∷ []) = Unit {0}
 AreInOrder (e ∷ f ∷ rest) = (is_before e f ≡ true) × AreInOrder (f ∷ rest)
 
--- an underflow is the reply to an output exactly where the counter had reached its cycle
-abbrev pub UnderflowsIfLate : Act → Type 0
-UnderflowsIfLate (Asked (ask.Out e) reply at) = (reply ≡ answer.Underflow) ↔ (cycle_of e ≤ at)
-UnderflowsIfLate act = Unit {0}
+-- the events put out up to the counter are, in the order of their stamps, exactly those submitted up to it, less those overridden
+-- and those that the log names
+pub record PutsOut (core : CoreState) : Type 0 where
+  pub events : List (ℕ × Event)
+  pub are : map (λ p. p.1) events ≡ outputs_at core.config core.history core.counter
+  pub in_order : AreInOrder (outputs_at core.config core.history core.counter)
+  pub exactly : (p : ℕ × Event) → IsAmong p events ↔ IsPutOut core p
 
-abbrev pub UnderflowWhereLate : List Entry → Type 0
-UnderflowWhereLate [] = Unit {0}
-UnderflowWhereLate (entry ∷ rest) = UnderflowsIfLate entry.act × UnderflowWhereLate rest
+-- an output behind some entries underflows exactly where the counter has reached its cycle, and then submits nothing: only those
+-- before it are submitted
+abbrev pub UnderflowsExactly : (before : List Entry) → (chair : ℕ) → Act → Type 0
+UnderflowsExactly before chair (Asked (ask.Out e) reply at) =
+    ((reply ≡ answer.Underflow) ↔ (cycle_of e ≤ at))
+    × (reply ≡ answer.Underflow → submitted (before ++ record { chair = chair; act = Asked (ask.Out e) reply at } ∷ []) ≡ submitted before)
+UnderflowsExactly before chair act = Unit {0}
 
--- the events put out up to a counter are, by timestamp and channel, those of all that are done that the log doesn't name and
--- that aren't overridden; no two of them are at one timestamp and channel; and what underflowed came too late, and nothing else
-pub record PutsOutWhatWasAsked (config : Config) (history : List Entry) (counter : ℕ) : Type 0 where
-  pub put_out : outputs_at config history counter ≡ map (λ p. p.1) (sorted is_put_out_before (filter (is_put_out config history counter) (done_outputs history)))
-  pub in_order : AreInOrder (outputs_at config history counter)
-  pub late : UnderflowWhereLate history
+-- the headline: what is put out is what was submitted, and what came too late wasn't
+pub record Headline (core : CoreState) : Type 0 where
+  pub outputs : PutsOut core
+  pub underflows : (before rest : List Entry) (entry : Entry) → core.history ≡ before ++ entry ∷ rest → UnderflowsExactly before entry.chair entry.act

@@ -1,7 +1,6 @@
-//! What the core of a laboratory promises of its outputs, in the words of who wrote down the pulses: what was put out is what
-//! was asked, less what the log names, and an underflow comes exactly where it must.
+//! What a core puts out, said in the words of what it was asked.
 #![tactic(auto)]
 
 mod laws;
 
-pub use laws::what_is_put_out_is_what_was_asked;
+pub use laws::{no_more_is_told_than_was_asked, what_is_put_out_was_submitted};
