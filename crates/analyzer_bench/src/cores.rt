@@ -1,0 +1,113 @@
+// Cores that put outputs out.
+
+ghost use Rattle.std.specs.Prelude.{◌≡◌, IfSome, OnSome, None, Some};
+ghost use Rattle.rtio_core.specs.Entries.{open_session};
+
+use rtio_core::{Ask, Config, Core, NamedList, StartOf, config_ok};
+use rtio_types::{EdgeList, Event, IntList, MU_PER_CYCLE, Outcome, Request};
+use std::alloc::Global;
+
+// The last cycle that the counter of the core reaches.
+const HORIZON: u64 = 576_460_752_303_423_488;
+
+// How many cycles an output is behind the one before it.
+const DISTANCE: u64 = 10;
+
+/// A core that put so many outputs out, each 10 cycles behind the one before. None where one would lie beyond the horizon, or
+/// there is no memory.
+pub fn drained(alloc: Global, count: u64) -> Option<Core> {
+    let mut core = opened(alloc)?;
+    send_all(alloc, &mut core, count)?;
+    close(alloc, &mut core)?;
+    Some(core)
+}
+
+// Asks for all outputs, one after another.
+fn send_all(alloc: Global, core: &mut Core, count: u64) -> Option<()>
+    requires open { open_session core.old.history ≡ Some (0, 0) }
+    requires waiting { core.old.waiting ≡ None }
+    ensures open { OnSome result (open_session core.new.history ≡ Some (0, 0)) }
+    ensures waiting { OnSome result (core.new.waiting ≡ None) }
+{
+    for number in 0..count {
+        send(alloc, core, output_of(number)?)?;
+    }
+    Some(())
+}
+
+// Ends the session, and lets all outputs out.
+fn close(alloc: Global, core: &mut Core) -> Option<()>
+    requires open { open_session core.old.history ≡ Some (0, 0) }
+    requires waiting { core.old.waiting ≡ None }
+{
+    core.end(alloc, 0, Outcome::Returned, 0).ok()?;
+    core.leap(u64::MAX);
+    Some(())
+}
+
+// The output of a number, if it isn't beyond the horizon: the first channel goes on and off in turn.
+fn output_of(number: u64) -> Option<Event>
+    ensures channel { IfSome result (λ event. event.channel ≡ 0) }
+    ensures address { IfSome result (λ event. event.address ≡ 0) }
+{
+    let cycle = number.checked_mul(DISTANCE)?.checked_add(1)?;
+    if cycle >= HORIZON {
+        return None;
+    }
+    Some(Event {
+        channel: 0,
+        address: 0,
+        value: if number % 2 == 0 { 1 } else { 0 },
+        stamp: (cycle * MU_PER_CYCLE) as i64,
+    })
+}
+
+// A core on which a session is open.
+fn opened(alloc: Global) -> Option<Core>
+    ensures open { IfSome result (λ core. open_session core.history ≡ Some (0, 0)) }
+    ensures waiting { IfSome result (λ core. core.waiting ≡ None) }
+{
+    let config = Config {
+        lanes: 8,
+        depth: 128,
+        cost: 0,
+        horizon: HORIZON,
+        edges: EdgeList::of(Vec::new(alloc)),
+        holds: [0; 32],
+        kept: NamedList::of(Vec::new(alloc)),
+    };
+    if !config_ok(&config) {
+        return None;
+    }
+    let main = StartOf {
+        source: 0,
+        function: 0,
+        args: IntList::of(Vec::new(alloc)),
+        rid: 0,
+        pos: 0,
+    };
+    let mut core = Core::new(alloc, config).ok()?;
+    match core.start(alloc, 0, main) {
+        Ok(_) => Some(core),
+        Err(_) => None,
+    }
+}
+
+// Asks for an output, and once more where the core has stopped for it.
+fn send(alloc: Global, core: &mut Core, event: Event) -> Option<()>
+    requires open { open_session core.old.history ≡ Some (0, 0) }
+    requires waiting { core.old.waiting ≡ None }
+    requires channel { event.channel ≡ 0 }
+    requires address { event.address ≡ 0 }
+    ensures open { OnSome result (open_session core.new.history ≡ Some (0, 0)) }
+    ensures waiting { OnSome result (core.new.waiting ≡ None) }
+{
+    if let Ask::Reply(_) = core.ask(alloc, 0, Request::Out(event)).ok()? {
+        return Some(());
+    }
+    core.leap(u64::MAX);
+    match core.ask(alloc, 0, Request::Out(event)).ok()? {
+        Ask::Reply(_) => Some(()),
+        _ => None,
+    }
+}

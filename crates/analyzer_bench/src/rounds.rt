@@ -1,0 +1,69 @@
+// What is timed.
+
+use core_analyzer::{Dump, has_few_entries, read_dump, rising, vcd, write_dump};
+use rtio_core::Core;
+use std::alloc::Global;
+
+/// What is done in each round.
+#[derive(Clone, Copy)]
+pub enum Work {
+    /// The core's dump is written.
+    Write,
+    /// The dump's bytes are read.
+    Read,
+    /// The dump's waveform is written.
+    Draw,
+}
+
+/// How many bytes came out.
+#[derive(Clone, Copy)]
+pub struct Sizes {
+    /// Of the dump.
+    pub dump: usize,
+    /// Of its waveform.
+    pub waveform: usize,
+}
+
+/// Writes the dump of a core, reads it and writes its waveform, and then does one of these so many times more. None where the
+/// core's dump has no bytes or no waveform, or there is no memory.
+pub fn worked(alloc: Global, core: &Core, work: Work, rounds: u64) -> Option<Sizes> {
+    let bytes = written(alloc, core)?;
+    let dump = read_dump(alloc, &bytes).ok()?;
+    let waveform = drawn(alloc, &dump)?;
+    for _round in 0..rounds {
+        repeat(alloc, core, &bytes, &dump, work)?;
+    }
+    Some(Sizes {
+        dump: bytes.len(),
+        waveform: waveform.len(),
+    })
+}
+
+fn repeat(alloc: Global, core: &Core, bytes: &[u8], dump: &Dump, work: Work) -> Option<()> {
+    match work {
+        Work::Write => {
+            written(alloc, core)?;
+        }
+        Work::Read => {
+            read_dump(alloc, bytes).ok()?;
+        }
+        Work::Draw => {
+            drawn(alloc, dump)?;
+        }
+    }
+    Some(())
+}
+
+fn written(alloc: Global, core: &Core) -> Option<Vec<u8>> {
+    if !has_few_entries(core) {
+        return None;
+    }
+    write_dump(alloc, core).ok()
+}
+
+fn drawn(alloc: Global, dump: &Dump) -> Option<Vec<u8>> {
+    if !rising(dump) {
+        return None;
+    }
+    vcd(alloc, dump).ok()
+}
