@@ -1,0 +1,5 @@
+mod Named
+mod Each
+mod Sessions
+mod Kernels
+mod Prepared

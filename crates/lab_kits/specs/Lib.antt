@@ -1,0 +1,5 @@
+pub mod Texts
+pub mod Calls
+pub mod Ends
+pub mod Accepted
+pub mod Kits
