@@ -1,0 +1,92 @@
+-- Asking until a request is decided.
+use Rattle.std.proofs.Common.{◌≡◌, ℕ, ◌+◌, ◌-◌, ◌*◌, ◌<◌, inl, inr, refl, sym, ap, subst, ◌∙◌, arith}
+use Rattle.std.specs.Prelude.{Option, Some, None}
+use Rattle.rtio_types.specs.declared.request.Request.{Request}
+use Rattle.rtio_types.specs.declared.request.Reply.{Reply}
+use Rattle.rtio_types.specs.declared.request.Waiting.{Waiting}
+use Rattle.rtio_core.specs.Core.{CoreState}
+use Rattle.rtio_core.specs.Calls.{NoOtherWaits, answered}
+use Rattle.rtio_core.specs.Lawful.{IsOpenFor}
+use Rattle.rtio_core.specs.Reply.{reply_to}
+use Rattle.rtio_core.specs.Top.{top}
+use Rattle.lab_kernels.specs.declared.turn.Turn.TheVariants.{Replied, Again, Over}
+use Rattle.lab_kernels.specs.Decided.{IsAnswered, IsNeverAnswered}
+use Rattle.lab_kernels.specs.Growing.{IsLater}
+use Rattle.lab_kernels.specs.Turns.{IsTurn, ticked_on, waits_with}
+use Rattle.lab_kernels.proofs.Growing.{later-on, later-same}
+
+-- one more holding may begin with the request waiting
+abbrev idle_count : Option Waiting → ℕ
+idle_count None = 1
+idle_count (Some w) = 0
+
+-- so near is the request to being decided: the cycles up to the horizon count twice, and that it doesn't wait yet
+abbrev pub distance : CoreState → ℕ
+distance core = 2 * (core.config.horizon - core.counter) + idle_count core.waiting
+
+-- where the holdings of a request stand
+pub record IsAskedStill (old : CoreState) (request : Request) (core : CoreState) (asked : Request) : Type 0 where
+  pub same : asked ≡ request
+  pub later : IsLater old core
+  pub free : NoOtherWaits core.waiting request
+
+pub first-asked : (old : CoreState) (request : Request) → NoOtherWaits old.waiting request → IsAskedStill old request old request
+first-asked old request free = record { same = refl; later = later-same old; free = free }
+
+ticks-later : (old new : CoreState) → new ≡ ticked_on old → IsLater old new
+ticks-later old new is = record { is = is ∙ ap (λ (c : CoreState). record old { counter = c.counter; waiting = c.waiting }) (sym is); later = let up = ap (λ (c : CoreState). c.counter) is in omega (arith, up) }
+
+waits-later : (old new : CoreState) (w : Waiting) → new ≡ waits_with (ticked_on old) w → IsLater old new
+waits-later old new w is = record { is = is ∙ ap (λ (c : CoreState). record old { counter = c.counter; waiting = c.waiting }) (sym is); later = let up = ap (λ (c : CoreState). c.counter) is in omega (arith, up) }
+
+module _ (old core new : CoreState) (request asked : Request) (still : IsAskedStill old request core asked) where
+  -- asked again
+  pub again-asked : (chair : ℕ) (back : Request) → IsTurn core chair asked (Again back) new → IsAskedStill old request new back
+  again-asked chair back (same, inl goes) = record {
+    same = same ∙ still.same;
+    later = later-on old core new still.later (ticks-later core new goes.1);
+    free = subst (λ (v : Option Waiting). NoOtherWaits v request) (sym (ap (λ (c : CoreState). c.waiting) goes.1)) still.free;
+  }
+  again-asked chair back (same, inr (inl waits)) = record {
+    same = same ∙ still.same;
+    later = later-on old core new still.later (waits-later core new waits.waiting waits.leaves);
+    free = subst (λ (v : Option Waiting). NoOtherWaits v request) (sym (ap (λ (c : CoreState). c.waiting) waits.leaves)) (waits.same ∙ still.same);
+  }
+  again-asked chair back (same, inr (inr other)) =
+      absurd (other.differs (subst (λ (v : Option Waiting). NoOtherWaits v request) other.is still.free ∙ sym still.same))
+
+  -- each such holding comes nearer
+  pub again-nearer : (chair : ℕ) (back : Request) → IsTurn core chair asked (Again back) new → distance new < distance core
+  again-nearer chair back (same, inl goes) =
+      let below = goes.0 in
+      let nearer : 2 * (core.config.horizon - (ticked_on core).counter) < 2 * (core.config.horizon - core.counter) = omega (arith, below) in
+      subst (λ (c : CoreState). distance c < distance core) (sym goes.1) (omega (arith, nearer))
+  again-nearer chair back (same, inr (inl waits)) =
+      let one : idle_count core.waiting ≡ 1 = ap idle_count waits.idle in
+      subst (λ (c : CoreState). distance c < distance core) (sym waits.leaves) (omega (arith, one))
+  again-nearer chair back (same, inr (inr other)) =
+      absurd (other.differs (subst (λ (v : Option Waiting). NoOtherWaits v request) other.is still.free ∙ sym still.same))
+
+  -- decided, or never
+  pub replied-decided : (chair : ℕ) (reply : Reply) → IsTurn core chair asked (Replied reply) new → IsAnswered old chair request reply new
+  replied-decided chair reply turn = record {
+    at = (ticked_on core).counter;
+    at_top = subst (λ (q : Request). (ticked_on core).counter ≡ top old.config old.history (Some q)) still.same (subst (λ (c : CoreState). (ticked_on core).counter ≡ top c.config c.history (Some asked)) still.later.is turn.at_top);
+    right = subst (λ (q : Request). reply_to old.config old.history q (ticked_on core).counter ≡ Some reply) still.same (subst (λ (c : CoreState). reply_to c.config c.history asked (ticked_on core).counter ≡ Some reply) still.later.is turn.right);
+    leaves =
+        turn.leaves
+        ∙ ap (λ (q : Request). answered (ticked_on core) chair q reply) still.same
+        ∙ ap (λ (c : CoreState). answered (record c { counter = (ticked_on core).counter }) chair request reply) still.later.is;
+  }
+
+  pub over-decided : (chair : ℕ) → IsTurn core chair asked Over new → IsNeverAnswered old request new
+  over-decided chair turn =
+      let horizon : core.config.horizon ≡ old.config.horizon = ap (λ (c : CoreState). c.config.horizon) still.later.is in
+      record {
+        undecided = subst (λ (q : Request). reply_to old.config old.history q old.config.horizon ≡ None) still.same (subst (λ (c : CoreState). reply_to c.config c.history asked c.config.horizon ≡ None) still.later.is turn.undecided);
+        last = ap (λ (c : CoreState). c.counter) turn.leaves ∙ turn.last ∙ horizon;
+        later = later-on old core new still.later (waits-later core new turn.waiting turn.leaves);
+      }
+
+  pub open-still : (chair : ℕ) → IsOpenFor chair old.history → IsOpenFor chair core.history
+  open-still chair opened = subst (λ (c : CoreState). IsOpenFor chair c.history) (sym still.later.is) opened

@@ -1,0 +1,49 @@
+use Rattle.std.proofs.Common.{refl, subst}
+use Rattle.std.proofs.lemmas.Result.{IfOk-weaker}
+use Rattle.std.specs.Prelude.{IsTrue}
+use Rattle.core_cpu.specs.declared.stop.Stop.{Stop}
+use Rattle.core_cpu.specs.Standing.{phase_fits}
+use Rattle.lab_kernels.proofs.Growing.{grows-same, on-err}
+use Rattle.lab_kernels.proofs.Steps.{Advances, ended-leads, has-asking, idle-under-way, may-end-under-way, now-asking, open-under-way}
+use Rattle.lab_kernels.proofs.answering.go_on.Goals as goal
+
+pub advance-requires : goal.advance-requires
+advance-requires c = idle-under-way c.args.who c.args.core.now c.args.cpu.now c.args.sets.now.items c.requires
+
+pub answer-requires : goal.answer-requires
+answer-requires c =
+    has-asking c.args.who c.in-Ask.request c.args.core.now c.args.cpu.now c.advance.new.self c.args.sets.now.items c.advance.ensures.code
+    (subst (λ (h : Stop). Advances c.args.cpu.now c.advance.new.self h) c.in-Ask.is c.in_ok-stop.ensures.stops)
+    (subst (λ (h : Stop). IsTrue (phase_fits h c.advance.new.self.phase)) c.in-Ask.is c.in_ok-stop.ensures.phase)
+    c.requires
+
+pub returns-in-Ask-clause-leads : goal.returns-in-Ask-clause-leads
+returns-in-Ask-clause-leads c =
+    IfOk-weaker c.answer.result _ _
+    (λ end leads s asked way.
+    leads s asked
+    (now-asking c.args.who s asked c.in-Ask.request c.args.core.now c.args.cpu.now c.advance.new.self c.args.sets.now.items c.advance.ensures.code
+    (subst (λ (h : Stop). Advances c.args.cpu.now c.advance.new.self h) c.in-Ask.is c.in_ok-stop.ensures.stops)
+    (subst (λ (h : Stop). IsTrue (phase_fits h c.advance.new.self.phase)) c.in-Ask.is c.in_ok-stop.ensures.phase)
+    way))
+    c.answer.ensures.leads
+
+pub end-requires-clause-open : goal.end-requires-clause-open
+end-requires-clause-open c = open-under-way c.args.who c.args.core.now c.args.cpu.now c.args.sets.now.items c.requires
+
+pub end-requires-clause-waiting : goal.end-requires-clause-waiting
+end-requires-clause-waiting c = may-end-under-way c.args.who c.args.core.now c.args.cpu.now c.args.sets.now.items c.in-Ended.outcome c.requires
+
+pub returns-in_ok-end-in-Ended-clause-leads : goal.returns-in_ok-end-in-Ended-clause-leads
+returns-in_ok-end-in-Ended-clause-leads c = λ s asked way.
+    ended-leads c.args.who s asked c.args.core.now c.end.new.core c.args.cpu.now c.advance.new.self c.args.sets.now.items c.in-Ended.outcome _ c.history-known.ensures.core c.advance.ensures.code
+    (subst (λ (h : Stop). Advances c.args.cpu.now c.advance.new.self h) c.in-Ended.is c.in_ok-stop.ensures.stops)
+    way
+    refl
+    c.in_ok-end-in-Ended.ensures.ok
+
+pub returns-in_err-stop-clause-err : goal.returns-in_err-stop-clause-err
+returns-in_err-stop-clause-err c = on-err _ _ (grows-same c.args.who c.args.core.now c.args.core.now refl)
+
+pub returns-in_err-end-in-Ended-clause-err : goal.returns-in_err-end-in-Ended-clause-err
+returns-in_err-end-in-Ended-clause-err c = on-err _ _ (grows-same c.args.who c.args.core.now c.end.new.core c.in_err-end-in-Ended.ensures.err)

@@ -1,0 +1,37 @@
+-- What a compiled kernel that was run leaves on a core.
+use Rattle.std.specs.Prelude.{ℕ, List, ◌++◌}
+use Rattle.rtio_core.specs.declared.data.Config.{Config}
+use Rattle.rtio_core.specs.declared.data.Entry.{Entry}
+use Rattle.rtio_core.specs.declared.data.StartOf.{StartOf}
+use Rattle.rtio_core.specs.Core.{CoreState}
+use Rattle.rtio_core.specs.Entries.{last_cursor}
+use Rattle.sched_state.specs.declared.entry.KernelResult.{KernelResult}
+use Rattle.core_isa.specs.declared.code.Code.{Code}
+use Rattle.core_cpu.specs.Standing.{Start as Beginning}
+use Rattle.kern_syntax.specs.Tree.{ProgramTree}
+use Rattle.core_session.specs.Sessions.{EndsAs, replies_of}
+use Rattle.kernel_session.specs.Meant.{account_of_meaning, meant, script_of}
+use Rattle.kernel_session.specs.Replays.{PlaysRecordings}
+use Rattle.lab_kernels.specs.Kernels.{KernelRun, entries_until_end}
+use Rattle.lab_kernels.specs.Runs.{HasRun}
+
+-- how the run of a session begins: at the cursor of the last end before it
+abbrev pub beginning_behind : (before : List Entry) → (units : ℕ) → KernelRun → Beginning
+beginning_behind before units k = record { function = k.of.function; args = k.of.args; cursor = last_cursor before; units = units }
+
+-- the session's requests, outcome and cursor are those of the program's meaning under its replies; so each recording that a
+-- reply brought was asked for at the cursor where the meaning stood then, and is played there
+pub record MeansProgram (program : ProgramTree) (units chair : ℕ) (config : Config) (before : List Entry) (k : KernelRun) : Type 0 where
+  pub ends : EndsAs
+      config
+      (before ++ entries_until_end chair before k)
+      k.asked
+      (account_of_meaning (meant program (beginning_behind before units k) (replies_of k.asked)))
+      k.how
+      k.cursor
+  pub plays : PlaysRecordings (script_of program (beginning_behind before units k)) k.asked k.how
+
+-- the code has run as a session of the chair, which is one of the program's meaning
+pub record RunsKernel (program : ProgramTree) (code : Code) (units chair : ℕ) (of : StartOf) (old new : CoreState) (result : KernelResult) : Type 0 where
+  pub ran : HasRun code units chair of old new result
+  pub means : MeansProgram program units chair old.config old.history ran.k
