@@ -81,7 +81,7 @@ fn write_outcome(
     match outcome {
         Outcome::Returned => writeln!(text, "end ok"),
         Outcome::Raised(exception) => {
-            let name = name_of(exception);
+            let name = name_of_exception(exception);
             writeln!(text, "end raised {name}")
         }
         Outcome::Budget => writeln!(text, "end budget {budget}"),
@@ -99,15 +99,15 @@ fn write_counter(text: &mut String, core: &Core) -> Result<(), AllocError>
     writeln!(text, "counter {reads}")
 }
 
-// Appends the line of a moment (mu).
-fn write_moment(text: &mut String, word: &str, moment: i64) -> Result<(), AllocError>
+/// Appends the line of a moment (mu), under its name. The only error is want of memory.
+pub fn write_moment(text: &mut String, word: &str, moment: i64) -> Result<(), AllocError>
     ensures { OnOk result (string_bytes text.new ≡ string_bytes text.old ++ moment_line word.now moment) }
 {
     writeln!(text, "{word} {moment}")
 }
 
-// The name of an exception, as kernels spell it (ARTIQ manual).
-fn name_of(exception: Exc) -> &'static str
+/// The name of an exception, as kernels spell it (ARTIQ manual).
+pub fn name_of_exception(exception: Exc) -> &'static str
     ensures { result.now ≡ exception_name exception }
 {
     match exception {

@@ -67,8 +67,8 @@ fn write_dataset(text: &mut String, name: &Name, value: &Value) -> Result<(), Al
     text.push_str("\n")
 }
 
-// Appends a number, or a list in brackets.
-fn write_value(text: &mut String, value: &Value) -> Result<(), AllocError>
+/// Appends a number, or a list in brackets. The only error is want of memory.
+pub fn write_value(text: &mut String, value: &Value) -> Result<(), AllocError>
     ensures { OnOk result (string_bytes text.new ≡ string_bytes text.old ++ value_text value.now) }
 {
     match value {

@@ -12,7 +12,8 @@ use rtio_log::{LogKind, LogLine};
 use rtio_types::Event;
 use std::alloc::AllocError;
 
-/// Appends the lines of events.
+/// Appends a line for each of these events: the word, and then stamp (mu), channel, address and value. The only error is want of
+/// memory.
 pub fn write_events(text: &mut String, word: &str, events: &[Event]) -> Result<(), AllocError>
     ensures { OnOk result (string_bytes text.new ≡ string_bytes text.old ++ flat_map (event_line word.now) events.now) }
 {
@@ -43,7 +44,7 @@ fn write_fields(text: &mut String, event: Event) -> Result<(), AllocError>
     writeln!(text, " {stamp} {channel} {address} {value}")
 }
 
-/// Appends the lines of the log, kind by kind.
+/// Appends the lines of a log: `seq`, `col`, `busy` and `rst`, kind by kind. The only error is want of memory.
 pub fn write_log(text: &mut String, log: &[LogLine]) -> Result<(), AllocError>
     ensures { OnOk result ((lists : LogLists) → TellsLog lists log.now → string_bytes text.new ≡ string_bytes text.old ++ log_text lists) }
 {

@@ -15,7 +15,7 @@ use std::alloc::{AllocError, Global};
 
 /// The accepted events that no reset cleared and whose cycle is above the counter, in the order of submission. The only
 /// error is want of memory.
-pub fn pending(alloc: Global, core: &Core) -> Result<Vec<Event>, AllocError>
+pub fn pending_events(alloc: Global, core: &Core) -> Result<Vec<Event>, AllocError>
     ensures { IfOk result (λ events. events.items ≡ pending_events core.now) }
 {
     let missed = missed(alloc, core.log())?;

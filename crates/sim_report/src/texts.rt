@@ -7,7 +7,7 @@ ghost use Rattle.sim_report.specs.Report.{report_text, summary_text};
 use crate::closing::write_closing;
 use crate::datasets::write_datasets;
 use crate::events::{write_count, write_events, write_log, write_log_counts};
-use crate::pending::pending;
+use crate::pending::pending_events;
 use rtio_core::Core;
 use std::alloc::{AllocError, Global};
 
@@ -36,7 +36,7 @@ pub fn report(
     let lines = core.trace().len().saturating_add(core.log().len());
     let mut text = String::with_capacity(alloc, lines.saturating_mul(LINE))?;
     write_events(&mut text, "out", core.trace())?;
-    let pending = pending(alloc, core)?;
+    let pending = pending_events(alloc, core)?;
     write_events(&mut text, "pend", &pending)?;
     write_log(&mut text, core.log())?;
     write_datasets(alloc, &mut text, core.history())?;
