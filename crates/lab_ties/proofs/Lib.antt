@@ -1,0 +1,3 @@
+pub mod Lasting
+pub mod Tied
+pub mod Kerneled

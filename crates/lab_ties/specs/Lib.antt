@@ -1,0 +1,6 @@
+pub mod Acts
+pub mod Settings
+pub mod Steps
+pub mod Ties
+pub mod Judged
+pub mod Laws
