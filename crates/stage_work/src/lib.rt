@@ -1,0 +1,12 @@
+//! Workers of a laboratory: they take jobs from its scheduler, compile the sources of runs, run kernels on the cores of their
+//! pipelines, and report. The stages of a run and its kernels' results are those of the ARTIQ manual's management system; how
+//! workers go about them is this project's own.
+#![tactic(auto)]
+
+mod preparing;
+mod reporting;
+mod serving;
+mod stepping;
+
+pub use lab_kits::{Gate, Kit, OpenGate, Place, PrepareEnd, prepare};
+pub use serving::serve;
