@@ -1,0 +1,5 @@
+mod Answering
+mod Cores
+mod Drained
+mod Finishing
+mod Known

@@ -1,0 +1,15 @@
+use Rattle.std.proofs.Common.{ap, ◌∙◌}
+use Rattle.std.specs.Prelude.{Err}
+use Rattle.lab_program.proofs.Answering.{faulty, reported}
+use Rattle.lab_program.proofs.answer.answer_to.Goals as goal
+
+pub returns-in_ok-run_laboratory-in-Ok : goal.returns-in_ok-run_laboratory-in-Ok
+returns-in_ok-run_laboratory-in-Ok g c =
+    reported c.no_session_has_a_fault.ensures c.args.text.now c.in_ok-run_laboratory-in-Ok.field-0.items c.in-Ok.session
+    c.in-Ok.ensures.ok c.in_ok-run_laboratory-in-Ok.ensures
+
+pub returns-in_ok-field_refusal-in-Err-Field : goal.returns-in_ok-field_refusal-in-Err-Field
+returns-in_ok-field_refusal-in-Err-Field g c =
+    faulty c.no_session_has_a_fault.ensures c.args.text.now c.in_ok-field_refusal-in-Err-Field.field-0.items c.in-Err-Field.path c.in-Err-Field.kind
+    (c.read_session.ensures.field c.in-Err-Field.path c.in-Err-Field.kind (c.in-Err-Field.is ∙ ap Err c.in-Err-Field.field-0-is))
+    c.in_ok-field_refusal-in-Err-Field.ensures

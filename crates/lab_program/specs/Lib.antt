@@ -1,0 +1,4 @@
+pub mod Draining
+pub mod Laboratories
+pub mod Refusals
+pub mod Answers

@@ -1,0 +1,35 @@
+// What the program says of the bytes of its source.
+
+ghost use Rattle.std.specs.Prelude.{IfOk};
+ghost use Rattle.lab_program.specs.Answers.{IsAnswerTo};
+
+use crate::laboratory::run_laboratory;
+use crate::refusal::{field_refusal, json_refusal};
+use exp_json::laws::no_session_has_a_fault;
+use exp_json::{SessionFault, read_session};
+use lab_kits::Gate;
+use std::alloc::{AllocError, Global};
+
+/// What is said of some bytes.
+#[derive(Drop)]
+pub enum Answer {
+    /// The report of the session that they are.
+    Due(Vec<u8>),
+    /// The line that says why they are none.
+    Refused(Vec<u8>),
+}
+
+/// Reads bytes as a session and runs it, or says why they are none.
+pub fn answer_to<G: Gate>(alloc: Global, text: &[u8], gate: &G) -> Result<Answer, AllocError>
+    ensures { IfOk result (λ answer. IsAnswerTo text.now answer) }
+{
+    no_session_has_a_fault();
+    match read_session(alloc, text) {
+        Ok(session) => Ok(Answer::Due(run_laboratory(alloc, &session, gate)?)),
+        Err(SessionFault::Json) => Ok(Answer::Refused(json_refusal(alloc)?)),
+        Err(SessionFault::Field { path, kind }) => {
+            Ok(Answer::Refused(field_refusal(alloc, &path, kind)?))
+        }
+        Err(SessionFault::Memory) => Err(AllocError),
+    }
+}

@@ -1,0 +1,12 @@
+//! The program `artiq_lab` as a function: a session's text goes in, and the report of the finished laboratory comes out.
+#![tactic(auto)]
+
+mod answer;
+mod draining;
+mod laboratory;
+mod opening;
+mod refusal;
+mod top;
+
+pub use laboratory::run_laboratory;
+pub use top::{lab_top, without_memory};
