@@ -4,10 +4,11 @@ two outputs must take as long 10 cycles apart as 100,000,000. Beside it stands a
 vector and sorts it. Needs rustc, and crates/core_bench built (rt run in its folder)."""
 
 import os
-import resource
 import subprocess
 import sys
 import tempfile
+
+from timing import processor_time
 
 ROOT = os.path.dirname(os.path.dirname(os.path.abspath(__file__)))
 CORE = os.path.join(ROOT, "crates", "core_bench", "out", "core_bench")
@@ -16,12 +17,6 @@ NEAR, FAR, FARTHEST = 10, 100_000_000, 499_999_999_999_999_999
 REPEATS = 20
 PAIRS = 20_000
 TRIES = 10
-
-
-def processor_time():
-    """The processor time of all runs so far, in seconds."""
-    spent = resource.getrusage(resource.RUSAGE_CHILDREN)
-    return spent.ru_utime + spent.ru_stime
 
 
 def best_time(program, outputs, distance, rounds):

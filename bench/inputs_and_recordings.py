@@ -3,9 +3,10 @@
 the time for one must not grow with their number. Needs crates/rtio_bench built (rt run in its folder)."""
 
 import os
-import resource
 import subprocess
 import sys
+
+from timing import processor_time
 
 ROOT = os.path.dirname(os.path.dirname(os.path.abspath(__file__)))
 PROGRAM = os.path.join(ROOT, "crates", "rtio_bench", "out", "rtio_bench")
@@ -20,12 +21,6 @@ def expected(edges, recordings):
     lengths = REPEATS * sum(range(recordings))
     found = f"{recordings} recordings found, lengths {lengths} by name and {lengths} by handle"
     return f"{edges} edges read, stamps {stamps}\n{found}\n".encode("ascii")
-
-
-def processor_time():
-    """The processor time of all runs so far, in seconds."""
-    spent = resource.getrusage(resource.RUSAGE_CHILDREN)
-    return spent.ru_utime + spent.ru_stime
 
 
 def best_time(edges, recordings):

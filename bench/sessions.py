@@ -5,11 +5,12 @@ crates/session_bench built (rt run in its folder)."""
 
 import json
 import os
-import resource
 import subprocess
 import sys
 import tempfile
 import time
+
+from timing import processor_time
 
 ROOT = os.path.dirname(os.path.dirname(os.path.abspath(__file__)))
 PROGRAM = os.path.join(ROOT, "crates", "session_bench", "out", "session_bench")
@@ -38,12 +39,6 @@ def session(length):
     if len(text) != length:
         sys.exit(f"a session of {len(text)} bytes in place of {length}")
     return text, value
-
-
-def processor_time():
-    """The processor time of all runs so far, in seconds."""
-    spent = resource.getrusage(resource.RUSAGE_CHILDREN)
-    return spent.ru_utime + spent.ru_stime
 
 
 def program_time(path, line, rounds):

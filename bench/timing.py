@@ -15,6 +15,12 @@ COMPILE = [sys.executable, "-c", "import sys; compile(sys.stdin.read(), 'text', 
 ROUNDS = 20
 
 
+def processor_time():
+    """The processor time of all runs so far, in seconds."""
+    spent = resource.getrusage(resource.RUSAGE_CHILDREN)
+    return spent.ru_utime + spent.ru_stime
+
+
 def best_time(argv, path, status=0):
     """The best time of some runs on a file, in milliseconds."""
     best = float("inf")
