@@ -1,10 +1,13 @@
 // Images: what `compile` writes, and what `exec` makes of it.
 
 use crate::inputs::{GATE, USUAL};
+use crate::kernels::{Kernel, PLAIN, WITH_OPTIONS};
 use crate::options::{LATE, THREE};
 use crate::program::{expect_refused, run};
 use crate::recordings::TWICE;
 use crate::reports::{PAIR, PARALLEL};
+use std::alloc::Global;
+use std::process::Abort;
 use std::test::Fail;
 
 // One function with one Return.
@@ -63,13 +66,7 @@ fn other_images_are_refused(rt: HostRuntime) -> Result<(), Fail> {
     expect_refused(&rt, alloc, &exec, &longer, 9, "image 26\n")
 }
 
-// A kernel, and the options that it is run with.
-struct Kernel {
-    text: &'static str,
-    options: &'static [&'static str],
-}
-
-const KERNELS: &[Kernel] = &[
+const FURTHER: &[Kernel] = &[
     Kernel {
         text: PAIR,
         options: &[],
@@ -105,28 +102,35 @@ const KERNELS: &[Kernel] = &[
 ];
 
 // The report, the line `code` included, and the status are those of `sim`.
+fn expect_agree(
+    rt: &impl Abort,
+    alloc: Global,
+    text: &str,
+    options: &[&'static str],
+) -> Result<(), Fail> {
+    let image = run(alloc, &["compile"], text.as_bytes())?;
+    assert_eq!(rt; image.status, 0, "{}", text);
+    let mut sim = Vec::new(alloc);
+    sim.push("sim")?;
+    sim.extend_from_slice(options)?;
+    let mut exec = Vec::new(alloc);
+    exec.push("exec")?;
+    exec.extend_from_slice(options)?;
+    let of_text = run(alloc, &sim, text.as_bytes())?;
+    let of_image = run(alloc, &exec, &image.out)?;
+    assert_eq!(rt; of_image.out.as_slice(), of_text.out.as_slice(), "{}", text);
+    assert_eq!(rt; of_image.status, of_text.status, "{}", text);
+    Ok(())
+}
+
 #[test]
 fn exec_reports_an_image_as_sim_its_text(rt: HostRuntime) -> Result<(), Fail> {
     let alloc = rt.alloc();
-    for kernel in KERNELS {
-        let text = kernel.text.as_bytes();
-        let image = run(alloc, &["compile"], text)?;
-        assert_eq!(rt; image.status, 0, "{}", kernel.text);
-        let mut sim = Vec::new(alloc);
-        sim.push("sim")?;
-        sim.extend_from_slice(kernel.options)?;
-        let mut exec = Vec::new(alloc);
-        exec.push("exec")?;
-        exec.extend_from_slice(kernel.options)?;
-        let of_text = run(alloc, &sim, text)?;
-        let of_image = run(alloc, &exec, &image.out)?;
-        assert_eq!(rt;
-            of_image.out.as_slice(),
-            of_text.out.as_slice(),
-            "{}",
-            kernel.text
-        );
-        assert_eq!(rt; of_image.status, of_text.status, "{}", kernel.text);
+    for text in PLAIN {
+        expect_agree(&rt, alloc, text, &[])?;
+    }
+    for kernel in WITH_OPTIONS.iter().chain(FURTHER) {
+        expect_agree(&rt, alloc, kernel.text, kernel.options)?;
     }
     Ok(())
 }

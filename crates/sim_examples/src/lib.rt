@@ -3,6 +3,8 @@
 #![tactic(auto)]
 
 #[cfg(test)]
+mod dumps;
+#[cfg(test)]
 mod examples;
 #[cfg(test)]
 mod faults;
@@ -12,6 +14,8 @@ mod generated;
 mod images;
 #[cfg(test)]
 mod inputs;
+#[cfg(test)]
+mod kernels;
 #[cfg(test)]
 mod limits;
 #[cfg(test)]

@@ -43,7 +43,7 @@ const REFUSED: &[(&str, &str)] = &[
 #[test]
 fn other_texts_are_refused_by_name_and_place(rt: HostRuntime) -> Result<(), Fail> {
     for (text, line) in REFUSED {
-        for command in ["sim", "check", "compile"] {
+        for command in ["sim", "check", "compile", "dump"] {
             expect_refused(&rt, rt.alloc(), &[command], text.as_bytes(), 1, line)?;
         }
     }

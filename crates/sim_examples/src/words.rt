@@ -3,7 +3,7 @@
 use crate::program::{Fails, run_failing};
 use std::test::Fail;
 
-const USAGE: &str = "usage: artiq_sim sim or check or compile or exec or gen\n";
+const USAGE: &str = "usage: artiq_sim sim or check or compile or exec or gen or dump or vcd\n";
 
 const WORDS: &[&[&str]] = &[
     &[],
@@ -30,6 +30,8 @@ const WORDS: &[&[&str]] = &[
     &["exec", "--gen", "1"],
     &["gen"],
     &["gen", "--number", "9223372036854775808"],
+    &["dump", "--dma", "lines"],
+    &["vcd", "--cost", "8"],
 ];
 
 // No source is read, since the first call of this one would fail.

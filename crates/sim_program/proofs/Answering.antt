@@ -6,12 +6,13 @@ use Rattle.kern_syntax.specs.Print.{program_text}
 use Rattle.core_isa.specs.declared.code.Code.{Code}
 use Rattle.core_image.specs.Spelling.{image_of}
 use Rattle.code_law.specs.DoesAs.{DoesAs}
-use Rattle.sim_words.specs.declared.asked.Asked.TheVariants.{Sim, Generated, Exec}
+use Rattle.sim_words.specs.declared.asked.Asked.TheVariants.{Sim, Generated, Exec, Dump}
 use Rattle.sim_words.specs.declared.asked.Options.{Options}
 use Rattle.sim_program.specs.declared.answer.Answer.{Answer}
 use Rattle.sim_program.specs.declared.answer.Answer.TheVariants as A
 use Rattle.sim_program.specs.declared.report.Form.{Form}
 use Rattle.sim_program.specs.declared.report.Form.TheVariants.{Report, Summary}
+use Rattle.sim_program.specs.declared.report.Form.TheVariants as F
 use Rattle.sim_program.specs.declared.run.Run.{Run}
 use Rattle.sim_program.specs.Texts.{IsKernel, IsKernelText, IsTextRefused}
 use Rattle.sim_program.specs.Images.{IsAcceptedImage, IsImageRefused}
@@ -122,3 +123,12 @@ summed number options text (A.Bad told) h = absurd h
 pub sums : (number : ℕ) (options : Options) (text : Bytes) {E : Type 0} (result : Result Answer E) → IfOk result (λ answer. IsRunAnswer options Summary text answer) → IfOk result (λ answer. IsAnswerTo (Generated number options) text answer)
 sums number options text (Ok answer) h = summed number options text answer h
 sums number options text (Err e) h = tt
+
+dumped : (options : Options) (text : Bytes) (answer : Answer) → IsRunAnswer options F.Bytes text answer → IsAnswerTo (Dump options) text answer
+dumped options text (A.Due bytes finish) h = (h.0, λ told refused. h.1 told refused, λ told bad. bad)
+dumped options text (A.Refused told) h = (h.0, λ taken. h.1 taken.0 taken.1)
+dumped options text (A.Bad told) h = absurd h
+
+pub dumps : (options : Options) (text : Bytes) {E : Type 0} (result : Result Answer E) → IfOk result (λ answer. IsRunAnswer options F.Bytes text answer) → IfOk result (λ answer. IsAnswerTo (Dump options) text answer)
+dumps options text (Ok answer) h = dumped options text answer h
+dumps options text (Err e) h = tt

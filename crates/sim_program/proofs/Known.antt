@@ -7,7 +7,7 @@ use Rattle.lab_io.specs.declared.source.ReadEnd.{ReadEnd}
 use Rattle.lab_io.specs.declared.source.ReadEnd.TheVariants as End
 use Rattle.lab_io.specs.Reading.{IsCountAt}
 use Rattle.sim_words.specs.declared.asked.Asked.{Asked}
-use Rattle.sim_words.specs.declared.asked.Asked.TheVariants.{Sim, Generated, Check, Compile, Exec, Gen}
+use Rattle.sim_words.specs.declared.asked.Asked.TheVariants.{Sim, Generated, Check, Compile, Exec, Gen, Dump, Vcd}
 use Rattle.sim_program.specs.declared.answer.Answer.{Answer}
 use Rattle.sim_program.specs.declared.answer.Answer.TheVariants.{Due, Refused, Bad}
 use Rattle.sim_program.specs.declared.finish.Finish.{Finish}
@@ -180,6 +180,8 @@ refused-or-bad Check text one other refused bad = bad
 refused-or-bad Compile text one other refused bad = bad
 refused-or-bad (Exec options dma) text one other refused bad = refused
 refused-or-bad (Gen number) text one other refused bad = bad
+refused-or-bad (Dump options) text one other refused bad = bad
+refused-or-bad Vcd text one other refused bad = refused
 
 -- a fact of the bytes that were got, from one of the bytes that the source is told to have held
 carried : (P : Asked → List ℕ → Type 0) (asked : Option Asked) (command other : Asked) (old new : Option (List ℕ)) (bytes text : List ℕ) → asked ≡ Some command → asked ≡ Some other → Gets (origin_of command) old new bytes → IsGiven (origin_of other) old text → P other text → P command bytes
@@ -222,6 +224,8 @@ due-ends Check text written status due = due.1
 due-ends Compile text written status due = due.1
 due-ends (Exec options dma) text written status due = ends-run _ status due.status_is
 due-ends (Gen number) text written status due = due.1
+due-ends (Dump options) text written status due = ends-run _ status due.status_is
+due-ends Vcd text written status due = due.1
 
 -- an answer that isn't 4 is the status
 pub not-four : (result status : ℕ) → (result ≡ status) ⊎ (result ≡ 4) → (result ≡ 0) ⊎ ((result ≡ 6) ⊎ (result ≡ 7)) → result ≡ status
@@ -248,6 +252,24 @@ memory-not-due result (inl five) (inr (inr seven)) = omega (arith, five, seven)
 memory-not-due result (inr four) (inl zero_status) = omega (arith, four, zero_status)
 memory-not-due result (inr four) (inr (inl six)) = omega (arith, four, six)
 memory-not-due result (inr four) (inr (inr seven)) = omega (arith, four, seven)
+
+-- nor is a source that failed
+pub fault-not-due : (result : ℕ) → (result ≡ 3) ⊎ (result ≡ 4) → IsRunEnd result → ⊥
+fault-not-due result (inl three) (inl zero_status) = omega (arith, three, zero_status)
+fault-not-due result (inl three) (inr (inl six)) = omega (arith, three, six)
+fault-not-due result (inl three) (inr (inr seven)) = omega (arith, three, seven)
+fault-not-due result (inr four) (inl zero_status) = omega (arith, four, zero_status)
+fault-not-due result (inr four) (inr (inl six)) = omega (arith, four, six)
+fault-not-due result (inr four) (inr (inr seven)) = omega (arith, four, seven)
+
+-- nor is a source that held too much
+pub many-not-due : (result : ℕ) → (result ≡ 8) ⊎ (result ≡ 4) → IsRunEnd result → ⊥
+many-not-due result (inl eight) (inl zero_status) = omega (arith, eight, zero_status)
+many-not-due result (inl eight) (inr (inl six)) = omega (arith, eight, six)
+many-not-due result (inl eight) (inr (inr seven)) = omega (arith, eight, seven)
+many-not-due result (inr four) (inl zero_status) = omega (arith, four, zero_status)
+many-not-due result (inr four) (inr (inl six)) = omega (arith, four, six)
+many-not-due result (inr four) (inr (inr seven)) = omega (arith, four, seven)
 
 -- nothing is read under a command that reads nothing
 pub reads-nothing : (asked : Option Asked) (command : Asked) → asked ≡ Some command → ReadsNothing asked → ReadsNothing (Some command)

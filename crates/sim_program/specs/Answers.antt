@@ -9,10 +9,12 @@ use Rattle.core_image.specs.Spelling.{image_of}
 use Rattle.code_law.specs.DoesAs.{DoesAs}
 use Rattle.kernel_gen.specs.Generated.{kernel_text}
 use Rattle.sim_words.specs.declared.asked.Asked.{Asked}
-use Rattle.sim_words.specs.declared.asked.Asked.TheVariants.{Sim, Generated, Check, Compile, Exec, Gen}
-use Rattle.sim_program.specs.declared.report.Form.TheVariants.{Report, Summary}
+use Rattle.sim_words.specs.declared.asked.Asked.TheVariants.{Sim, Generated, Check, Compile, Exec, Gen, Dump, Vcd}
+use Rattle.sim_program.specs.declared.report.Form.TheVariants.{Report, Summary, Bytes}
 use Rattle.sim_program.specs.Texts.{IsKernelText, IsTextRefused}
+use Rattle.core_analyzer.specs.Dumps.{Dumped}
 use Rattle.sim_program.specs.Images.{IsAcceptedImage, IsImageRefused}
+use Rattle.sim_program.specs.Waves.{DrawsWave, IsDumpRefused, IsWaveDump}
 use Rattle.sim_program.specs.Runs.{RunsImage, RunsKernel}
 use Rattle.sim_program.specs.Reports.{Tells}
 
@@ -31,7 +33,11 @@ max_text = 1048576
 abbrev pub max_image : ℕ
 max_image = 8388608
 
--- a kernel's text is read, or generated; an image is read
+-- the most bytes of a dump
+abbrev pub max_dump : ℕ
+max_dump = 33554432
+
+-- a kernel's text is read, or generated; an image or a dump is read
 abbrev pub origin_of : Asked → Origin
 origin_of (Sim options dma) = Reads max_text
 origin_of (Generated number options) = Has (kernel_text number)
@@ -39,6 +45,8 @@ origin_of Check = Reads max_text
 origin_of Compile = Reads max_text
 origin_of (Exec options dma) = Reads max_image
 origin_of (Gen number) = Has (kernel_text number)
+origin_of (Dump options) = Reads max_text
+origin_of Vcd = Reads max_dump
 
 abbrev pub HasBytes : Origin → Type 0
 HasBytes (Reads most) = ⊥
@@ -82,7 +90,8 @@ pub record CompilesText (text written : List ℕ) : Type 0 where
   pub image : written ≡ image_of code
 
 -- the bytes and the status that a command owes: the report of a run of the kernel or of the image, and its status; the summary of
--- a run of the generated kernel; or with status 0 the canonical text, the image, or the generated text itself
+-- a run of the generated kernel; the bytes of what the core did in a run of the kernel; or with status 0 the canonical text, the
+-- image, the generated text itself, or the waveform
 abbrev pub IsDue : Asked → (text written : List ℕ) → (status : ℕ) → Type 0
 IsDue (Sim options dma) text written status = Tells (RunsKernel options text) (Report dma) options.budget written status
 IsDue (Generated number options) text written status = Tells (RunsKernel options text) Summary options.budget written status
@@ -90,8 +99,11 @@ IsDue Check text written status = PrintsText text written × (status ≡ 0)
 IsDue Compile text written status = CompilesText text written × (status ≡ 0)
 IsDue (Exec options dma) text written status = Tells (RunsImage options text) (Report dma) options.budget written status
 IsDue (Gen number) text written status = (written ≡ text) × (status ≡ 0)
+IsDue (Dump options) text written status = Tells (RunsKernel options text) Bytes options.budget written status
+IsDue Vcd text written status = DrawsWave text written × (status ≡ 0)
 
--- the bytes that a command takes: a text of an accepted kernel, or for `exec` an image of accepted code
+-- the bytes that a command takes: a text of an accepted kernel, for `exec` an image of accepted code, or for `vcd` a dump whose
+-- stamps are at least 8
 abbrev pub IsTaken : Asked → (text : List ℕ) → Type 0
 IsTaken (Sim options dma) text = (program : ProgramTree) × IsKernelText text program
 IsTaken (Generated number options) text = (program : ProgramTree) × IsKernelText text program
@@ -99,8 +111,10 @@ IsTaken Check text = (program : ProgramTree) × IsKernelText text program
 IsTaken Compile text = (program : ProgramTree) × IsKernelText text program
 IsTaken (Exec options dma) text = (code : Code) × IsAcceptedImage text code
 IsTaken (Gen number) text = Unit {0}
+IsTaken (Dump options) text = (program : ProgramTree) × IsKernelText text program
+IsTaken Vcd text = (dump : Dumped) × IsWaveDump text dump
 
--- why a command refuses a text, and the line that says so; `exec` and `gen` take no text
+-- why a command refuses a text, and the line that says so; `exec`, `gen` and `vcd` take no text
 abbrev pub IsRefused : Asked → (text told : List ℕ) → Type 0
 IsRefused (Sim options dma) text told = IsTextRefused text told
 IsRefused (Generated number options) text told = IsTextRefused text told
@@ -108,10 +122,13 @@ IsRefused Check text told = IsTextRefused text told
 IsRefused Compile text told = IsTextRefused text told
 IsRefused (Exec options dma) text told = ⊥
 IsRefused (Gen number) text told = ⊥
+IsRefused (Dump options) text told = IsTextRefused text told
+IsRefused Vcd text told = ⊥
 
--- why `exec` refuses its bytes, and the line that says so; no other command takes an image
+-- why `exec` or `vcd` refuses its bytes, and the line that says so; no other command takes an image or a dump
 abbrev pub IsBad : Asked → (bytes told : List ℕ) → Type 0
 IsBad (Exec options dma) bytes told = IsImageRefused bytes told
+IsBad Vcd bytes told = IsDumpRefused bytes told
 IsBad asked bytes told = ⊥
 
 -- the statuses of a run
@@ -126,6 +143,8 @@ IsEnd Check status = status ≡ 0
 IsEnd Compile status = status ≡ 0
 IsEnd (Exec options dma) status = IsRunEnd status
 IsEnd (Gen number) status = status ≡ 0
+IsEnd (Dump options) status = IsRunEnd status
+IsEnd Vcd status = status ≡ 0
 
 -- ---- what was read and written
 
@@ -176,14 +195,14 @@ pub record TellsRefused (Why : Asked → (text told : List ℕ) → Type 0) (ask
 
 -- why a run is refused or not made
 pub data Refusal : Type 0 where
-  of_text of_image : (told : List ℕ) → Refusal
+  of_text of_bytes : (told : List ℕ) → Refusal
   usage read_fault memory too_long : Refusal
 
 -- the line that a refusal writes
 abbrev pub refusal_line : Refusal → List ℕ
 refusal_line (of_text told) = told
-refusal_line (of_image told) = told
-refusal_line usage = codes "usage: artiq_sim sim or check or compile or exec or gen\n"
+refusal_line (of_bytes told) = told
+refusal_line usage = codes "usage: artiq_sim sim or check or compile or exec or gen or dump or vcd\n"
 refusal_line read_fault = codes "read fault\n"
 refusal_line memory = codes "memory\n"
 refusal_line too_long = codes "too long\n"
@@ -191,7 +210,7 @@ refusal_line too_long = codes "too long\n"
 -- why a refusal comes: by the command that was asked, if it was one, the source's bytes and the source's faults
 abbrev pub IsCause : Refusal → (asked : Option Asked) (old new : Option (List ℕ)) (before now : ℕ) → Type 0
 IsCause (of_text told) asked old new before now = HoldsRefused IsRefused told asked old new
-IsCause (of_image told) asked old new before now = HoldsRefused IsBad told asked old new
+IsCause (of_bytes told) asked old new before now = HoldsRefused IsBad told asked old new
 IsCause usage asked old new before now = asked ≡ None
 IsCause read_fault asked old new before now = IsSome asked × Rose before now
 IsCause memory asked old new before now = Unit {0}

@@ -1,5 +1,6 @@
 pub mod Texts
 pub mod Images
+pub mod Waves
 pub mod Runs
 pub mod Reports
 pub mod Answers

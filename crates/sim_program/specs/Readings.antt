@@ -1,5 +1,5 @@
 -- What the program's parts make of its bytes.
-use Rattle.std.specs.Prelude.{◌≡◌, ℕ, List, Option, Result, Vec, MatchResult}
+use Rattle.std.specs.Prelude.{◌≡◌, ℕ, List, None, Option, Result, Vec, MatchResult}
 use Rattle.std.specs.declared.alloc.Global.{Global}
 use Rattle.lab_io.specs.declared.source.ReadEnd.{ReadEnd}
 use Rattle.lab_io.specs.Reading.{ReadsToEnd}
@@ -29,6 +29,11 @@ use Rattle.sim_program.specs.declared.kernel.Built.{Built}
 use Rattle.sim_program.specs.declared.kernel.Built.TheVariants as built
 use Rattle.sim_program.specs.Texts.{IsKernel, IsKernelText, IsProgramRefused, IsTextOf, IsTextRefused}
 use Rattle.sim_program.specs.Images.{IsAcceptedImage, IsImageRefused}
+use Rattle.core_analyzer.specs.DumpFields.{first_wrong}
+use Rattle.core_analyzer.specs.Dumps.{Dumped, IsSpelling}
+use Rattle.sim_program.specs.declared.wave.Wave.{Wave}
+use Rattle.sim_program.specs.declared.wave.Wave.TheVariants as wave
+use Rattle.sim_program.specs.Waves.{DrawsWave, IsDumpRefused, IsWaveDump}
 use Rattle.sim_program.specs.declared.report.Form.{Form}
 use Rattle.sim_program.specs.Runs.{IsReported, RunsKernel, RunsMain, start_of}
 use Rattle.sim_program.specs.declared.run.Run.{Run}
@@ -75,6 +80,17 @@ IsImageOf bytes (image.Refused told) = IsImageRefused bytes told.items × ((code
 abbrev pub IsVerifiedAs : (bytes : List ℕ) → Code → Image → Type 0
 IsVerifiedAs bytes code (image.Accepted verified) = (verified ≡ code) × Marked code × MainTakesNothing code
 IsVerifiedAs bytes code (image.Refused told) = IsImageRefused bytes told.items
+
+-- the dump is the only one that the bytes spell, and no field of them is wrong
+pub record IsDumpOf (bytes : List ℕ) (dump : Dumped) : Type 0 where
+  pub spelled : IsSpelling bytes dump
+  pub only : (other : Dumped) → IsSpelling bytes other → dump ≡ other
+  pub right : first_wrong bytes ≡ None
+
+-- bytes have this waveform, or they are refused
+abbrev pub IsWaveOf : (bytes : List ℕ) → Wave → Type 0
+IsWaveOf bytes (wave.Drawn text) = DrawsWave bytes text.items × ((told : List ℕ) → ¬ IsDumpRefused bytes told)
+IsWaveOf bytes (wave.Refused told) = IsDumpRefused bytes told.items × ((dump : Dumped) → ¬ IsWaveDump bytes dump)
 
 -- a run of the main function of compiled code leaves this core
 pub record IsMainRun (program : ProgramTree) (code : Code) (options : Options) (core : CoreState) (how : Outcome) (steps : ℕ) : Type 0 where

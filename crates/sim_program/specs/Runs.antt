@@ -4,7 +4,7 @@ use Rattle.rtio_types.specs.declared.outcome.Outcome.{Outcome}
 use Rattle.rtio_types.specs.declared.request.Reply.{Reply}
 use Rattle.rtio_core.specs.declared.data.StartOf.{StartOf}
 use Rattle.rtio_core.specs.Core.{CoreState, IsCore, new_core}
-use Rattle.rtio_headline.specs.Headline.{PutsOutWhatWasAsked}
+use Rattle.rtio_headline.specs.Headline.{Headline}
 use Rattle.kern_syntax.specs.Tree.{FunctionTree, ProgramTree}
 use Rattle.core_isa.specs.declared.code.Code.{Code}
 use Rattle.core_image.specs.Spelling.{image_of}
@@ -34,7 +34,7 @@ pub record IsMain (program : ProgramTree) (index : ℕ) : Type 0 where
 pub record IsReported (left core : CoreState) : Type 0 where
   pub drained : core ≡ drained left
   pub lawful : IsCore core
-  pub headline : PutsOutWhatWasAsked core.config core.history core.counter
+  pub headline : Headline core
 
 -- a session of a program's `main` on a new core: its requests, outcome and cursor are what the program means under its replies,
 -- and history and counter are the ones that the options' schedule makes of that, step by step. In lockstep each request was asked

@@ -1,5 +1,5 @@
 // What the program answers to the bytes of a command.
-ghost use Rattle.std.specs.Prelude.{◌≡◌, ◌<◌, ◌^◌, length, IfOk, IsTrue};
+ghost use Rattle.std.specs.Prelude.{◌≡◌, ◌≤◌, ◌<◌, ◌^◌, length, IfOk, IsTrue};
 ghost use Rattle.kern_syntax.specs.TreeOf.{tree_of};
 ghost use Rattle.rtio_core.specs.Entries.{is_config_ok};
 ghost use Rattle.sim_report.specs.Ends.{HasEnded};
@@ -12,6 +12,7 @@ use crate::kernel::{Built, Kernel, built_of, kernel_of, over_limit};
 use crate::refusal::code_refusal;
 use crate::report::{Form, text_of};
 use crate::run::{Run, run_image, run_main};
+use crate::wave::{Wave, wave_of};
 use core_image::encode;
 use kern_syntax::print;
 use sim_report::pends;
@@ -25,7 +26,7 @@ pub enum Answer {
     Due { bytes: Vec<u8>, finish: Finish },
     /// The line that says why a text is refused.
     Refused(Vec<u8>),
-    /// The line that says why an image is refused.
+    /// The line that says why an image or a dump is refused.
     Bad(Vec<u8>),
 }
 
@@ -41,6 +42,8 @@ pub fn answer_to(alloc: Global, asked: Asked, text: Vec<u8>) -> Result<Answer, A
         Asked::Check => answer_by_text(alloc, &text),
         Asked::Compile => answer_by_image(alloc, &text),
         Asked::Exec { options, dma } => answer_by_code(alloc, &text, options, dma),
+        Asked::Dump { options } => answer_by_run(alloc, &text, options, Form::Bytes),
+        Asked::Vcd => answer_by_dump(alloc, &text),
         Asked::Gen { .. } => Ok(Answer::Due {
             bytes: text,
             finish: Finish::Whole,
@@ -56,6 +59,7 @@ fn answer_by_run(
     form: Form,
 ) -> Result<Answer, AllocError>
     requires config { IsTrue (is_config_ok options.config) }
+    requires units { options.budget ≤ 1000000 }
     requires short { length text.now < 2 ^ 31 }
     ensures { IfOk result (λ answer. IsRunAnswer options form text.now answer) }
 {
@@ -108,7 +112,8 @@ fn answer_by_code(
     options: Options,
     dma: bool,
 ) -> Result<Answer, AllocError>
-    requires { IsTrue (is_config_ok options.config) }
+    requires config { IsTrue (is_config_ok options.config) }
+    requires units { options.budget ≤ 1000000 }
     ensures { IfOk result (λ answer. IsAnswerTo (Asked.Exec options dma) bytes.now answer) }
 {
     match image_of(alloc, bytes)? {
@@ -122,6 +127,19 @@ fn answer_by_code(
     }
 }
 
+// Writes the waveform of a dump.
+fn answer_by_dump(alloc: Global, bytes: &[u8]) -> Result<Answer, AllocError>
+    ensures { IfOk result (λ answer. IsAnswerTo Asked.Vcd bytes.now answer) }
+{
+    match wave_of(alloc, bytes)? {
+        Wave::Refused(line) => Ok(Answer::Bad(line)),
+        Wave::Drawn(text) => Ok(Answer::Due {
+            bytes: text,
+            finish: Finish::Whole,
+        }),
+    }
+}
+
 // Tells of a run.
 fn answer_of_run(
     alloc: Global,
@@ -130,7 +148,8 @@ fn answer_of_run(
     budget: u32,
     size: u64,
 ) -> Result<Answer, AllocError>
-    requires { HasEnded run.now.core.history }
+    requires ended { HasEnded run.now.core.history }
+    requires few { length run.now.core.history ≤ 1000002 }
     ensures { IfOk result (λ answer. TellsOf form run.now budget size answer) }
 {
     Ok(Answer::Due {

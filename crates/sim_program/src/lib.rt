@@ -10,5 +10,6 @@ mod refusal;
 mod report;
 mod run;
 mod top;
+mod wave;
 
 pub use top::{sim_top, without_memory};

@@ -1,7 +1,8 @@
-// The lines that say why a text or an image is refused.
+// The lines that say why a text, an image or a dump is refused.
 ghost use Rattle.std.specs.Prelude.{◌≡◌, IfOk};
 ghost use Rattle.sim_program.specs.Images.{bad_code_line, image_line};
 ghost use Rattle.sim_program.specs.Texts.{code_line, kind_text, lex_line, syntax_line, type_kind_text, type_line};
+ghost use Rattle.sim_program.specs.Waves.{dump_line, early_line};
 
 use kern_lexer::LexKind;
 use kern_types::TypeKind;
@@ -94,5 +95,23 @@ pub fn bad_code_refusal(alloc: Global, place: u32) -> Result<Vec<u8>, AllocError
 {
     let mut line = String::new(alloc);
     writeln!(line, "bad code {place}")?;
+    Ok(line.into_bytes())
+}
+
+/// `dump OFFSET`: where the first wrong field of bytes that are no dump begins, in bytes.
+pub fn dump_refusal(alloc: Global, offset: u64) -> Result<Vec<u8>, AllocError>
+    ensures { IfOk result (λ line. line.items ≡ dump_line offset) }
+{
+    let mut line = String::new(alloc);
+    writeln!(line, "dump {offset}")?;
+    Ok(line.into_bytes())
+}
+
+/// `dump early`: a stamp of a dump is below 8.
+pub fn early_refusal(alloc: Global) -> Result<Vec<u8>, AllocError>
+    ensures { IfOk result (λ line. line.items ≡ early_line) }
+{
+    let mut line = String::new(alloc);
+    writeln!(line, "dump early")?;
     Ok(line.into_bytes())
 }

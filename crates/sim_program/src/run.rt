@@ -1,5 +1,5 @@
 // Runs of a kernel's `main` and of an image's main function, each on a new core.
-ghost use Rattle.std.specs.Prelude.{◌≡◌, IfOk, IsTrue, None};
+ghost use Rattle.std.specs.Prelude.{◌≡◌, ◌≤◌, ◌+◌, length, IfOk, IsTrue, None};
 ghost use Rattle.kern_syntax.specs.TreeOf.{tree_of};
 ghost use Rattle.rtio_core.specs.Entries.{is_config_ok, open_session};
 ghost use Rattle.sim_report.specs.Ends.{HasEnded};
@@ -11,7 +11,7 @@ use core_image::Verified;
 use core_session::{Ran, SessionEnd, drain_core, run_code};
 use kernel_session::run_session;
 use rtio_core::{Core, StartOf};
-use rtio_headline::what_is_put_out_is_what_was_asked;
+use rtio_headline::what_is_put_out_was_submitted;
 use rtio_types::{IntList, Outcome};
 use sim_words::Options;
 use std::alloc::{AllocError, Global};
@@ -32,6 +32,7 @@ pub fn run_main(alloc: Global, compiled: &Compiled, options: Options) -> Result<
     requires { IsTrue (is_config_ok options.config) }
     ensures run { IfOk result (λ run. IsMainRun (tree_of compiled.now.0) compiled.now.1 options run.core run.outcome run.steps) }
     ensures ended { IfOk result (λ run. HasEnded run.core.history) }
+    ensures few { IfOk result (λ run. length run.core.history ≤ options.budget + 2) }
 {
     let main = compiled.code().code().main;
     let mut schedule = options.schedule;
@@ -56,6 +57,7 @@ pub fn run_image(alloc: Global, code: &Verified, options: Options) -> Result<Run
     requires { IsTrue (is_config_ok options.config) }
     ensures run { IfOk result (λ run. IsCodeRun code.now options run.core run.outcome run.steps) }
     ensures ended { IfOk result (λ run. HasEnded run.core.history) }
+    ensures few { IfOk result (λ run. length run.core.history ≤ options.budget + 2) }
 {
     let main = code.code().main;
     let mut schedule = options.schedule;
@@ -88,7 +90,7 @@ fn settled(core: Core, ran: Ran) -> Run
     ensures outcome { result.outcome ≡ ran.outcome }
     ensures steps { result.steps ≡ ran.steps }
 {
-    what_is_put_out_is_what_was_asked();
+    what_is_put_out_was_submitted();
     let mut core = core;
     drain_core(&mut core);
     let _lawful = core.history();

@@ -14,7 +14,7 @@ use lab_io::{ReadEnd, Sink, Source, read_all, write_all};
 use sim_words::{Asked, WordsEnd, read_words};
 use std::alloc::Global;
 
-const USAGE: &[u8] = b"usage: artiq_sim sim or check or compile or exec or gen\n";
+const USAGE: &[u8] = b"usage: artiq_sim sim or check or compile or exec or gen or dump or vcd\n";
 
 // The most bytes of a kernel's text.
 const MAX_TEXT: u64 = 1_048_576;
@@ -22,14 +22,19 @@ const MAX_TEXT: u64 = 1_048_576;
 // The most bytes of an image.
 const MAX_IMAGE: u64 = 8_388_608;
 
+// The most bytes of a dump.
+const MAX_DUMP: u64 = 33_554_432;
+
 /// Answers the words. Under `sim` it reads a kernel's text, runs it and writes its report, or with `--gen` runs a generated
 /// kernel and writes the summary of its run; under `check` it reads a kernel's text and writes its canonical text; under
 /// `compile` it reads one and writes the image of its code, which does what the text means; under `exec` it reads such an
-/// image, runs it and writes its report; under `gen` it writes the generated text.
+/// image, runs it and writes its report; under `gen` it writes the generated text; under `dump` it reads a kernel's text, runs
+/// it and writes what its core did as bytes; under `vcd` it reads such bytes and writes their waveform.
 ///
-/// The status is 0 where all was done; 1 where a text is refused, and 9 where an image is; 2 where the words aren't accepted;
-/// 3 where the source failed, and 4 where a sink did; 5 for want of memory; 6 where the run raised an exception; 7 where it
-/// used up its units, met the last cycle, or left events that are still to be put out; 8 where the source held too much.
+/// The status is 0 where all was done; 1 where a text is refused, and 9 where an image or a dump is; 2 where the words aren't
+/// accepted; 3 where the source failed, and 4 where a sink did; 5 for want of memory; 6 where the run raised an exception; 7
+/// where it used up its units, met the last cycle, or left events that are still to be put out; 8 where the source held too
+/// much.
 pub fn sim_top<S: Source, K: Sink, E: Sink>(
     alloc: Global,
     words: &[String],
@@ -54,14 +59,15 @@ pub fn sim_top<S: Source, K: Sink, E: Sink>(
         × OnlyTells (K.held out.old) (K.held out.new) (E.held err.old) (E.held err.new) (refusal_line too_long) }
     // The text, which is all that the source held or the generated one, is refused, and err has the line that says why.
     ensures refused { result ≡ 1 → TellsRefused IsRefused (asked_of (map string_bytes words.now)) (S.left source.old) (S.left source.new) (K.held out.old) (K.held out.new) (E.held err.old) (E.held err.new) }
-    // All that the source held is no image of accepted code, and err has the line that says why.
+    // All that the source held is no image of accepted code, or no dump with a waveform, and err has the line that says why.
     ensures bad { result ≡ 9 → TellsRefused IsBad (asked_of (map string_bytes words.now)) (S.left source.old) (S.left source.new) (K.held out.old) (K.held out.new) (E.held err.old) (E.held err.new) }
     // Memory was refused.
     ensures memory { result ≡ 5 → OnlyTells (K.held out.old) (K.held out.new) (E.held err.old) (E.held err.new) (refusal_line memory) }
     // The command took its bytes, and out has what is due for them. Under `sim` and `exec` that is the report of a run of the
-    // kernel, or of the image: what was put out up to the counter is, by stamps, exactly what the source's timeline submits
-    // under the kept replies, less what was overridden and what the log names as sequence error, collision, busy or cleared;
-    // and an output underflowed exactly where the counter had reached its cycle, with only earlier ones submitted.
+    // kernel, or of the image, and under `dump` what its core did: what was put out up to the counter is, by stamps, exactly
+    // what the source's timeline submits under the kept replies, less what was overridden, which a later output of its channel
+    // and stamp was, and what the log names as sequence error, collision, busy or cleared; and an output underflowed exactly
+    // where the counter had reached its cycle, with only earlier ones submitted.
     ensures due { (result ≡ 0) ⊎ ((result ≡ 6) ⊎ (result ≡ 7)) → GivesDue (asked_of (map string_bytes words.now)) (S.left source.old) (S.left source.new) (K.held out.old) (K.held out.new) result
         × (E.held err.new ≡ E.held err.old) }
     // A sink failed, and has a part of what was due.
@@ -93,7 +99,7 @@ pub fn sim_top<S: Source, K: Sink, E: Sink>(
         → IsGiven (origin_of asked) (S.left source.old) text → IsRefused asked text told
         → NoFaultCame (S.faults source.old) (S.faults source.new) (K.faults out.old) (K.faults out.new) (E.faults err.old) (E.faults err.new)
         → (result ≡ 1) ⊎ (result ≡ 5) }
-    // Nor bytes that are no image of accepted code.
+    // Nor bytes that are no image of accepted code, or no dump with a waveform.
     ensures bad_only { (asked : Asked) (text told : List ℕ) → asked_of (map string_bytes words.now) ≡ Some asked
         → IsGiven (origin_of asked) (S.left source.old) text → IsBad asked text told
         → NoFaultCame (S.faults source.old) (S.faults source.new) (K.faults out.old) (K.faults out.new) (E.faults err.old) (E.faults err.new)
@@ -126,8 +132,11 @@ fn bytes_of<S: Source>(alloc: Global, asked: &Asked, source: &mut S) -> Result<V
     ensures steady { result ≢ Err ReadEnd.Fault → S.faults source.new ≡ S.faults source.old }
 {
     match asked {
-        Asked::Sim { .. } | Asked::Check | Asked::Compile => read_all(alloc, source, MAX_TEXT),
+        Asked::Sim { .. } | Asked::Dump { .. } | Asked::Check | Asked::Compile => {
+            read_all(alloc, source, MAX_TEXT)
+        }
         Asked::Exec { .. } => read_all(alloc, source, MAX_IMAGE),
+        Asked::Vcd => read_all(alloc, source, MAX_DUMP),
         Asked::Generated { number, .. } | Asked::Gen { number } => match generated_text(
             alloc, *number,
         ) {

@@ -14,9 +14,9 @@ use Rattle.option_values.specs.Readings.{Reads}
 use Rattle.option_values.specs.Numbers.{number_in, number_of}
 use Rattle.sim_words.specs.Given.{Given, given_of, value_of}
 use Rattle.sim_words.specs.declared.asked.Asked.{Asked}
-use Rattle.sim_words.specs.declared.asked.Asked.TheVariants.{Sim, Generated, Check, Compile, Exec, Gen}
+use Rattle.sim_words.specs.declared.asked.Asked.TheVariants.{Sim, Generated, Check, Compile, Exec, Gen, Dump, Vcd}
 use Rattle.sim_words.specs.declared.asked.Options.{Options}
-use Rattle.sim_words.specs.Asked.{Command, IsAccepted, any_number, asked_of, budget_of, command_named, config_of, cost_of, depth_of, dma_of, edges_given, exec_names, exec_of, gen_names, gen_of, holds_given, horizon_of, if_read, lanes_of, options_of, read_or, recordings_given, schedule_given, sim_names, sim_of}
+use Rattle.sim_words.specs.Asked.{Command, IsAccepted, any_number, asked_of, budget_of, command_named, config_of, cost_of, depth_of, dma_of, dump_names, dump_of, edges_given, exec_names, exec_of, gen_names, gen_of, holds_given, horizon_of, if_read, lanes_of, options_of, read_or, recordings_given, schedule_given, sim_names, sim_of}
 
 -- a number lies in its range
 number-within : (least most : ℕ) (text : List ℕ) → IfSome (number_in least most text) (λ n. (least ≤ n) × (n ≤ most))
@@ -114,6 +114,13 @@ exec-accepted given = go (options_of given) (dma_of given) (options-accepted giv
     go (Some options) None held = tt
     go (Some options) (Some lines) held = held
 
+pub dump-accepted : (given : List Given) → IfSome (dump_of given) IsAccepted
+dump-accepted given = go (options_of given) (options-accepted given)
+  where
+    go : (options : Option Options) → IfSome options AreAccepted → IfSome (option_map (λ options. Dump options) options) IsAccepted
+    go None held = tt
+    go (Some options) held = held
+
 pub gen-accepted : (given : List Given) → IfSome (gen_of given) IsAccepted
 gen-accepted given = go (if_read (value_of (codes "number") given) any_number)
   where
@@ -129,14 +136,20 @@ choose true a b first second = first
 choose false a b first second = second
 
 -- the commands from one on
+abbrev from-vcd : List ℕ → Option Command
+from-vcd word = cond (bytes_eq word (codes "vcd")) (Some (record { names = []; asks = λ given. Some Vcd })) None
+
 abbrev from-compile : List ℕ → Option Command
-from-compile word = cond (bytes_eq word (codes "compile")) (Some (record { names = []; asks = λ given. Some Compile })) None
+from-compile word = cond (bytes_eq word (codes "compile")) (Some (record { names = []; asks = λ given. Some Compile })) (from-vcd word)
 
 abbrev from-check : List ℕ → Option Command
 from-check word = cond (bytes_eq word (codes "check")) (Some (record { names = []; asks = λ given. Some Check })) (from-compile word)
 
+abbrev from-dump : List ℕ → Option Command
+from-dump word = cond (bytes_eq word (codes "dump")) (Some (record { names = dump_names; asks = dump_of })) (from-check word)
+
 abbrev from-gen : List ℕ → Option Command
-from-gen word = cond (bytes_eq word (codes "gen")) (Some (record { names = gen_names; asks = gen_of })) (from-check word)
+from-gen word = cond (bytes_eq word (codes "gen")) (Some (record { names = gen_names; asks = gen_of })) (from-dump word)
 
 abbrev from-exec : List ℕ → Option Command
 from-exec word = cond (bytes_eq word (codes "exec")) (Some (record { names = exec_names; asks = exec_of })) (from-gen word)
@@ -145,9 +158,11 @@ named-accepted : (word : List ℕ) → Accepts (command_named word)
 named-accepted word =
     choose (bytes_eq word (codes "sim")) (Some (record { names = sim_names; asks = sim_of })) (from-exec word) sim-accepted
     (choose (bytes_eq word (codes "exec")) (Some (record { names = exec_names; asks = exec_of })) (from-gen word) exec-accepted
-    (choose (bytes_eq word (codes "gen")) (Some (record { names = gen_names; asks = gen_of })) (from-check word) gen-accepted
+    (choose (bytes_eq word (codes "gen")) (Some (record { names = gen_names; asks = gen_of })) (from-dump word) gen-accepted
+    (choose (bytes_eq word (codes "dump")) (Some (record { names = dump_names; asks = dump_of })) (from-check word) dump-accepted
     (choose (bytes_eq word (codes "check")) (Some (record { names = []; asks = λ given. Some Check })) (from-compile word) (λ given. tt)
-    (choose (bytes_eq word (codes "compile")) (Some (record { names = []; asks = λ given. Some Compile })) None (λ given. tt) tt))))
+    (choose (bytes_eq word (codes "compile")) (Some (record { names = []; asks = λ given. Some Compile })) (from-vcd word) (λ given. tt)
+    (choose (bytes_eq word (codes "vcd")) (Some (record { names = []; asks = λ given. Some Vcd })) None (λ given. tt) tt))))))
 
 pub given-accepted : (names words : List (List ℕ)) (asks : List Given → Option Asked) → ((given : List Given) → IfSome (asks given) IsAccepted)
     → IfSome (if_read (given_of names words) asks) IsAccepted

@@ -6,7 +6,7 @@ use Rattle.rtio_core.specs.declared.data.Config.{Config}
 use Rattle.run_schedule.specs.Schedules.{Lockstep, Letters}
 use Rattle.run_schedule.specs.declared.schedule.Step.TheVariants.{Cpu, Tick}
 use Rattle.option_values.specs.Lists.{no_holds}
-use Rattle.sim_words.specs.declared.asked.Asked.TheVariants.{Sim, Generated, Check, Compile, Exec, Gen}
+use Rattle.sim_words.specs.declared.asked.Asked.TheVariants.{Sim, Generated, Check, Compile, Exec, Gen, Dump, Vcd}
 use Rattle.sim_words.specs.declared.asked.Options.{Options}
 use Rattle.sim_words.specs.Asked.{asked_of}
 
@@ -52,6 +52,13 @@ checked = refl
 compiled : asked_of (codes "compile" ∷ []) ≡ Some Compile
 compiled = refl
 
+dumped : asked_of (codes "dump" ∷ codes "--horizon=576460752303423488" ∷ codes "--cost" ∷ codes "8" ∷ [])
+    ≡ Some (Dump (with_config (record settings { cost = 8; horizon = 576460752303423488 })))
+dumped = refl
+
+waveform : asked_of (codes "vcd" ∷ []) ≡ Some Vcd
+waveform = refl
+
 -- ---- refused
 
 no-command : asked_of [] ≡ None
@@ -80,6 +87,15 @@ bare-word = refl
 
 lists-of-generated : asked_of (codes "sim" ∷ codes "--gen=1" ∷ codes "--dma=lines" ∷ []) ≡ None
 lists-of-generated = refl
+
+lists-of-dumped : asked_of (codes "dump" ∷ codes "--dma=lines" ∷ []) ≡ None
+lists-of-dumped = refl
+
+generated-dump : asked_of (codes "dump" ∷ codes "--gen=1" ∷ []) ≡ None
+generated-dump = refl
+
+options-of-waveform : asked_of (codes "vcd" ∷ codes "--cost=8" ∷ []) ≡ None
+options-of-waveform = refl
 
 too-far : asked_of (codes "sim" ∷ codes "--horizon=134217729" ∷ codes "--schedule=mix:1" ∷ []) ≡ None
 too-far = refl

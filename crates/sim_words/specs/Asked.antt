@@ -1,5 +1,5 @@
 -- What the words of `artiq_sim` ask.
-use Rattle.std.specs.Prelude.{ℕ, ◌≤◌, Bool, true, false, List, [], ◌∷◌, is_some, Option, Some, None, IfSome, IsTrue, option_map, option_and_then, bytes_eq, codes, if◌then◌else◌}
+use Rattle.std.specs.Prelude.{ℕ, ◌≤◌, Bool, true, false, List, [], ◌∷◌, ◌++◌, is_some, Option, Some, None, IfSome, IsTrue, option_map, option_and_then, bytes_eq, codes, if◌then◌else◌}
 use Rattle.std.specs.Bool.{then_some}
 use Rattle.std.specs.Option.{option_map_or}
 use Rattle.rtio_types.specs.declared.event.Edge.{Edge}
@@ -12,7 +12,7 @@ use Rattle.option_values.specs.Schedules.{schedule_of}
 use Rattle.option_values.specs.Lists.{edges_of, holds_of, no_holds, recordings_of}
 use Rattle.sim_words.specs.Given.{Given, given_of, value_of}
 use Rattle.sim_words.specs.declared.asked.Asked.{Asked}
-use Rattle.sim_words.specs.declared.asked.Asked.TheVariants.{Sim, Generated, Check, Compile, Exec, Gen}
+use Rattle.sim_words.specs.declared.asked.Asked.TheVariants.{Sim, Generated, Check, Compile, Exec, Gen, Dump, Vcd}
 use Rattle.sim_words.specs.declared.asked.Options.{Options}
 
 -- ---- one option
@@ -93,10 +93,14 @@ options_of given =
 -- ---- commands
 
 -- the names of the options of a run
-abbrev pub exec_names : List (List ℕ)
-exec_names =
+abbrev pub dump_names : List (List ℕ)
+dump_names =
     codes "cost" ∷ codes "lanes" ∷ codes "depth" ∷ codes "horizon" ∷ codes "budget" ∷ codes "schedule" ∷ codes "edges"
-    ∷ codes "hold" ∷ codes "recordings" ∷ codes "dma" ∷ []
+    ∷ codes "hold" ∷ codes "recordings" ∷ []
+
+-- and of one whose report may have the lines of the recordings
+abbrev pub exec_names : List (List ℕ)
+exec_names = dump_names ++ codes "dma" ∷ []
 
 abbrev pub sim_names : List (List ℕ)
 sim_names = codes "gen" ∷ exec_names
@@ -117,6 +121,10 @@ sim_of given =
 abbrev pub exec_of : List Given → Option Asked
 exec_of given = if_read (options_of given) (λ options. option_map (λ dma. Exec options dma) (dma_of given))
 
+-- a kernel text is run, and its core is dumped
+abbrev pub dump_of : List Given → Option Asked
+dump_of given = option_map (λ options. Dump options) (options_of given)
+
 -- the generated kernel of a number, which has to be given
 abbrev pub gen_of : List Given → Option Asked
 gen_of given = option_map (λ number. Gen number) (option_and_then any_number (value_of (codes "number") given))
@@ -131,8 +139,10 @@ command_named word =
     if bytes_eq word (codes "sim") then Some (record { names = sim_names; asks = sim_of })
     else if bytes_eq word (codes "exec") then Some (record { names = exec_names; asks = exec_of })
     else if bytes_eq word (codes "gen") then Some (record { names = gen_names; asks = gen_of })
+    else if bytes_eq word (codes "dump") then Some (record { names = dump_names; asks = dump_of })
     else if bytes_eq word (codes "check") then Some (record { names = []; asks = λ given. Some Check })
     else if bytes_eq word (codes "compile") then Some (record { names = []; asks = λ given. Some Compile })
+    else if bytes_eq word (codes "vcd") then Some (record { names = []; asks = λ given. Some Vcd })
     else None
 
 -- what the words ask: the first is the command, the others are its options
@@ -148,9 +158,11 @@ abbrev pub options_in : Asked → Option Options
 options_in (Sim options dma) = Some options
 options_in (Generated number options) = Some options
 options_in (Exec options dma) = Some options
+options_in (Dump options) = Some options
 options_in Check = None
 options_in Compile = None
 options_in (Gen number) = None
+options_in Vcd = None
 
 -- a core can be made with the settings, and the budget is of 1 to 1,000,000 units
 abbrev pub IsAccepted : Asked → Type 0

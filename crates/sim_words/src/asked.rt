@@ -29,4 +29,8 @@ pub enum Asked {
     Exec { options: Options, dma: bool },
     /// `gen`: the text of the generated kernel of this number, below 2^63.
     Gen { number: u64 },
+    /// `dump`: a kernel text is run, and what its core did is written as bytes.
+    Dump { options: Options },
+    /// `vcd`: such bytes are written as a waveform text.
+    Vcd,
 }

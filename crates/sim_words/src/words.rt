@@ -4,7 +4,7 @@ ghost use Rattle.std.specs.Prelude.{◌≡◌, ◌≤◌, IfOk, None, Some, List
 ghost use Rattle.option_values.specs.Readings.{Reads};
 ghost use Rattle.sim_words.specs.Given.{given_of};
 ghost use Rattle.sim_words.specs.Matches.{HasOptions, given_in};
-ghost use Rattle.sim_words.specs.Asked.{IsAccepted, asked_of, exec_of, exec_names, gen_of, gen_names, if_read, sim_of, sim_names};
+ghost use Rattle.sim_words.specs.Asked.{IsAccepted, asked_of, dump_of, dump_names, exec_of, exec_names, gen_of, gen_names, if_read, sim_of, sim_names};
 
 use crate::asked::Asked;
 use crate::given::{read_given, value_of};
@@ -46,8 +46,10 @@ pub fn read_words(alloc: Global, words: &[String]) -> Result<Asked, ValueEnd>
         "sim" => read_sim(alloc, words),
         "exec" => read_exec(alloc, words),
         "gen" => read_gen(alloc, words),
+        "dump" => read_dump(alloc, words),
         "check" => read_bare(alloc, words, Asked::Check),
         "compile" => read_bare(alloc, words, Asked::Compile),
+        "vcd" => read_bare(alloc, words, Asked::Vcd),
         _ => Err(ValueEnd::Refused),
     }
 }
@@ -68,6 +70,16 @@ fn read_exec(alloc: Global, words: &[String]) -> Result<Asked, ValueEnd>
 {
     match read_given(alloc, &SIM_NAMES[1..], words) {
         Ok(given) => ask_exec(alloc, &given),
+        Err(end) => Err(end),
+    }
+}
+
+// The words behind `dump`, whose options are those of `sim` but for the first and the last, `--gen` and `--dma`.
+fn read_dump(alloc: Global, words: &[String]) -> Result<Asked, ValueEnd>
+    ensures { Reads (if_read (given_of dump_names (map string_bytes words.now)) dump_of) result }
+{
+    match read_given(alloc, &SIM_NAMES[1..10], words) {
+        Ok(given) => ask_dump(alloc, &given),
         Err(end) => Err(end),
     }
 }
@@ -121,6 +133,15 @@ fn ask_exec(alloc: Global, given: &ArgMatches<'_>) -> Result<Asked, ValueEnd>
     let options = read_options(alloc, given)?;
     let dma = read_dma(given).ok_or(ValueEnd::Refused)?;
     Ok(Asked::Exec { options, dma })
+}
+
+// A kernel text is run, and its core is dumped.
+fn ask_dump(alloc: Global, given: &ArgMatches<'_>) -> Result<Asked, ValueEnd>
+    requires { HasOptions given.now }
+    ensures { Reads (dump_of (given_in given.now)) result }
+{
+    let options = read_options(alloc, given)?;
+    Ok(Asked::Dump { options })
 }
 
 // The generated kernel of the number that is given.

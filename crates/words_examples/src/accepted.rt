@@ -5,7 +5,7 @@ use run_schedule::{Schedule, Step};
 use sim_words::{Asked, WordsEnd};
 
 // Words, and lanes, depth, cost, horizon and budget.
-const NUMBERS: [(&str, [u64; 5]); 14] = [
+const NUMBERS: [(&str, [u64; 5]); 15] = [
     ("sim", [8, 128, 0, 134217728, 1000000]),
     ("exec", [8, 128, 0, 134217728, 1000000]),
     ("sim --cost 8", [8, 128, 8, 134217728, 1000000]),
@@ -41,6 +41,10 @@ const NUMBERS: [(&str, [u64; 5]); 14] = [
         "exec --dma=lines --budget=0999",
         [8, 128, 0, 134217728, 999],
     ),
+    (
+        "dump --horizon=576460752303423488 --cost 8",
+        [8, 128, 8, 576460752303423488, 1000000],
+    ),
 ];
 
 #[test]
@@ -62,7 +66,7 @@ fn numbers_are_read_in_any_order(rt: HostRuntime) {
 }
 
 // Commands, and what each is: its number if it has one, and whether it asks for the recordings that are kept.
-const COMMANDS: [(&str, &str, u64, bool); 10] = [
+const COMMANDS: [(&str, &str, u64, bool); 13] = [
     ("sim", "sim", 0, false),
     ("sim --dma lines", "sim", 0, true),
     ("exec", "exec", 0, false),
@@ -78,6 +82,14 @@ const COMMANDS: [(&str, &str, u64, bool); 10] = [
         9223372036854775807,
         false,
     ),
+    ("dump", "dump", 0, false),
+    (
+        "dump --hold 0:4 --recordings p:02000000000a00000000000000",
+        "dump",
+        0,
+        false,
+    ),
+    ("vcd", "vcd", 0, false),
 ];
 
 #[test]
@@ -93,6 +105,8 @@ fn each_command_is_asked_by_its_name(rt: HostRuntime) {
             Asked::Compile => ("compile", 0, false),
             Asked::Exec { dma, .. } => ("exec", 0, dma),
             Asked::Gen { number } => ("gen", number, false),
+            Asked::Dump { .. } => ("dump", 0, false),
+            Asked::Vcd => ("vcd", 0, false),
         };
         assert!(rt; have == (name, number, lines), "{line}");
     }

@@ -3,7 +3,7 @@
 use crate::words::ask;
 use sim_words::{WordsEnd, read_words};
 
-const FORMS: [&str; 42] = [
+const FORMS: [&str; 47] = [
     "",
     "sims",
     "Sim",
@@ -46,6 +46,11 @@ const FORMS: [&str; 42] = [
     "check check",
     "compile --dma lines",
     "compile --",
+    "dump --gen 1",
+    "dump --dma lines",
+    "dump --number 1",
+    "vcd --cost 8",
+    "vcd vcd",
 ];
 
 const NUMBERS: [&str; 30] = [

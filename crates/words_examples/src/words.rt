@@ -18,6 +18,7 @@ pub fn options(alloc: Global, line: &str) -> Option<Options> {
         Ok(Asked::Sim { options, .. }) => Some(options),
         Ok(Asked::Exec { options, .. }) => Some(options),
         Ok(Asked::Generated { options, .. }) => Some(options),
+        Ok(Asked::Dump { options }) => Some(options),
         _ => None,
     }
 }

@@ -1,4 +1,4 @@
-use Rattle.sim_program.proofs.Answering.{reports, sums}
+use Rattle.sim_program.proofs.Answering.{dumps, reports, sums}
 use Rattle.sim_program.proofs.answer.answer_to.Goals as goal
 
 pub returns-in-Sim : goal.returns-in-Sim
@@ -10,3 +10,8 @@ pub returns-in-Generated : goal.returns-in-Generated
 returns-in-Generated c =
     let told = rw c.deref-in-Generated.ensures.value at c.answer_by_run-in-Generated.ensures in
     rw c.in-Generated.is (sums c.in-Generated.number c.in-Generated.options c.args.text.items c.answer_by_run-in-Generated.result told)
+
+pub returns-in-Dump : goal.returns-in-Dump
+returns-in-Dump c =
+    let told = rw c.deref-in-Dump.ensures.value at c.answer_by_run-in-Dump.ensures in
+    rw c.in-Dump.is (dumps c.in-Dump.options c.args.text.items c.answer_by_run-in-Dump.result told)

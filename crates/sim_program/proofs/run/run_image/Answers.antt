@@ -3,6 +3,7 @@ use Rattle.core_cpu.specs.Standing.{HasEntry}
 use Rattle.core_isa.specs.declared.code.Code.{Code}
 use Rattle.rtio_core.specs.declared.data.StartOf.{StartOf}
 use Rattle.sim_program.specs.Runs.{start_of}
+use Rattle.sim_program.proofs.Few.{run-few}
 use Rattle.sim_program.proofs.Running.{code-run, has-main, runs-ended}
 use Rattle.sim_program.proofs.run.run_image.Goals as goal
 
@@ -22,3 +23,6 @@ returns-in-Ok-clause-run c =
 
 pub returns-in-Ok-clause-ended : goal.returns-in-Ok-clause-ended
 returns-in-Ok-clause-ended c = runs-ended _ _ _ _ _ _ _ _ c.in-Ok.ensures.session c.settled.ensures.reported.drained
+
+pub returns-in-Ok-clause-few : goal.returns-in-Ok-clause-few
+returns-in-Ok-clause-few c = run-few _ _ _ _ _ _ _ _ _ c.in_ok-core.ensures c.in-Ok.ensures.session c.settled.ensures.reported.drained

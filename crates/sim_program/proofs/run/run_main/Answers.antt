@@ -5,6 +5,7 @@ use Rattle.kernel_session.specs.Meant.{TakesArguments}
 use Rattle.rtio_core.specs.declared.data.StartOf.{StartOf}
 use Rattle.code_law.specs.DoesAs.{DoesAs}
 use Rattle.sim_program.specs.Runs.{start_of}
+use Rattle.sim_program.proofs.Few.{run-few}
 use Rattle.sim_program.proofs.Running.{main-run, main-takes, runs-ended}
 use Rattle.sim_program.proofs.run.run_main.Goals as goal
 
@@ -25,3 +26,6 @@ returns-in-Ok-clause-run c =
 
 pub returns-in-Ok-clause-ended : goal.returns-in-Ok-clause-ended
 returns-in-Ok-clause-ended c = runs-ended _ _ _ _ _ _ _ _ c.in-Ok.ensures.code c.settled.ensures.reported.drained
+
+pub returns-in-Ok-clause-few : goal.returns-in-Ok-clause-few
+returns-in-Ok-clause-few c = run-few _ _ _ _ _ _ _ _ _ c.in_ok-core.ensures c.in-Ok.ensures.code c.settled.ensures.reported.drained

@@ -1,8 +1,8 @@
 use Rattle.std.proofs.Common.{refl, subst, sym, ◌∙◌, inl, inr}
 use Rattle.std.specs.Io.KnownBytes.{Appends}
-use Rattle.sim_program.specs.Answers.{GrowsByPart, IsDue, IsEnd, memory, of_image, of_text, too_long}
+use Rattle.sim_program.specs.Answers.{GrowsByPart, IsDue, IsEnd, memory, of_bytes, of_text, too_long}
 use Rattle.sim_program.specs.Reports.{status_of}
-use Rattle.sim_program.proofs.Known.{bad-answer, bad-not-refused, due-answer, due-ends, ends-told, gave-up-not-many, gets, got-not-many, memory-not-due, none-taken, not-bad-too, not-four, not-longer, not-refused-too, not-taken-too, not-too-long, reads-nothing, refused-answer, refused-not-bad, same-asked, status-told, too-many}
+use Rattle.sim_program.proofs.Known.{bad-answer, bad-not-refused, due-answer, due-ends, ends-told, fault-not-due, gave-up-not-many, gets, got-not-many, many-not-due, memory-not-due, none-taken, not-bad-too, not-four, not-longer, not-refused-too, not-taken-too, not-too-long, reads-nothing, refused-answer, refused-not-bad, same-asked, status-told, too-many}
 use Rattle.sim_program.proofs.top.sim_top.Goals as goal
 
 pub returns-in-Err-Refused-clause-too_long_only : goal.returns-in-Err-Refused-clause-too_long_only
@@ -17,6 +17,10 @@ pub returns-in-Err-Fault-clause-unread : goal.returns-in-Err-Fault-clause-unread
 returns-in-Err-Fault-clause-unread g c =
     λ none. c.bytes_of.ensures.unread (reads-nothing _ c.in-Ok.asked c.in-Ok.ensures.ok none)
 
+pub returns-in-Err-Fault-clause-due : goal.returns-in-Err-Fault-clause-due
+returns-in-Err-Fault-clause-due g c =
+    λ good. absurd (fault-not-due c.told-in-Err-Fault.result c.told-in-Err-Fault.ensures.answer good)
+
 pub returns-in-Err-Fault-clause-too_long_only : goal.returns-in-Err-Fault-clause-too_long_only
 returns-in-Err-Fault-clause-too_long_only g c =
     λ left told many. absurd (gave-up-not-many _ c.in-Ok.asked _ _ left c.in-Err-Fault.field-0 (inl c.in-Err-Fault.field-0-is) c.in-Ok.ensures.ok told c.in-Err-Fault.ensures.bytes many)
@@ -24,6 +28,10 @@ returns-in-Err-Fault-clause-too_long_only g c =
 pub returns-in-Err-TooLong-clause-unread : goal.returns-in-Err-TooLong-clause-unread
 returns-in-Err-TooLong-clause-unread g c =
     λ none. c.bytes_of.ensures.unread (reads-nothing _ c.in-Ok.asked c.in-Ok.ensures.ok none)
+
+pub returns-in-Err-TooLong-clause-due : goal.returns-in-Err-TooLong-clause-due
+returns-in-Err-TooLong-clause-due g c =
+    λ good. absurd (many-not-due c.told-in-Err-TooLong.result c.told-in-Err-TooLong.ensures.answer good)
 
 pub returns-in-Err-TooLong-clause-too_long : goal.returns-in-Err-TooLong-clause-too_long
 returns-in-Err-TooLong-clause-too_long g c =
@@ -146,7 +154,7 @@ returns-in-Ok-Bad-clause-write_fault g c =
     inr (
       c.told-in-Ok-Bad.ensures.cause four,
       record {
-        refusal = of_image c.in-Ok-Bad.line.items;
+        refusal = of_bytes c.in-Ok-Bad.line.items;
         cause = record { command = c.in-Ok.asked; is_asked = c.in-Ok.ensures.ok; text = c.in-Ok-bytes_of.text.items; gets = gets c.in-Ok.asked _ _ c.in-Ok-bytes_of.text c.in-Ok-bytes_of.ensures.bytes; refused = h.0 };
         part = subst (λ x. GrowsByPart (g.E.Sink.held c.args.err.now) (g.E.Sink.held c.told-in-Ok-Bad.new.sink) x) c.deref-in-Ok-Bad.ensures.value (c.told-in-Ok-Bad.ensures.part four);
       },

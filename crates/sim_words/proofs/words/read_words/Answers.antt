@@ -1,7 +1,7 @@
 use Rattle.std.proofs.Common.{map, string_bytes}
 use Rattle.sim_words.specs.Given.{given_of}
-use Rattle.sim_words.specs.Asked.{exec_names, exec_of, gen_names, gen_of, if_read, sim_names, sim_of}
-use Rattle.sim_words.proofs.Accepted.{exec-accepted, gen-accepted, given-accepted, read-accepted, sim-accepted}
+use Rattle.sim_words.specs.Asked.{dump_names, dump_of, exec_names, exec_of, gen_names, gen_of, if_read, sim_names, sim_of}
+use Rattle.sim_words.proofs.Accepted.{dump-accepted, exec-accepted, gen-accepted, given-accepted, read-accepted, sim-accepted}
 use Rattle.sim_words.proofs.words.read_words.Goals as goal
 
 pub returns-in-sim-clause-accepted : goal.returns-in-sim-clause-accepted
@@ -18,3 +18,8 @@ pub returns-in-gen-clause-accepted : goal.returns-in-gen-clause-accepted
 returns-in-gen-clause-accepted c =
     let words = map string_bytes c.in-Some.words.now in
     read-accepted (if_read (given_of gen_names words) gen_of) c.read_gen.result c.read_gen.ensures (given-accepted gen_names words gen_of gen-accepted)
+
+pub returns-in-dump-clause-accepted : goal.returns-in-dump-clause-accepted
+returns-in-dump-clause-accepted c =
+    let words = map string_bytes c.in-Some.words.now in
+    read-accepted (if_read (given_of dump_names words) dump_of) c.read_dump.result c.read_dump.ensures (given-accepted dump_names words dump_of dump-accepted)
