@@ -27,7 +27,7 @@ import tempfile
 ROOT = pathlib.Path(__file__).resolve().parent.parent
 FENCE = re.compile(r"^```(\w*) ?(.*)\n((?:.*\n)*?)```$", re.M)
 GIVES = re.compile(r"`([^`\n]+)` (?:gives|is told as) `((?:lex|syntax|type|code) [^`\n]+)`")
-COMMAND = re.compile(r"^    ((?:bin/artiq_sim (?:sim|check|compile|exec|gen)|head|python3 docs/(?!check_documents))[^#\n]*)", re.M)
+COMMAND = re.compile(r"^    ((?:bin/artiq_sim (?:sim|check|compile|exec|gen|dump|vcd)|head|python3 docs/(?!check_documents))[^#\n]*)", re.M)
 PATH = re.compile(r"`((?:docs|crates|examples|bench|bin)/[\w./-]+)`")
 
 
@@ -141,7 +141,7 @@ class Checker:
         readme = (ROOT / "README.md").read_text()
         for crate in crates:
             for page, text in (("README.md", readme), ("docs/ARCHITECTURE.md", architecture)):
-                self.expect(page, f"names {crate}", re.search(rf"\b{crate}\b", text) is not None, True)
+                self.expect(page, f"names {crate}", is_named(crate, text), True)
         for file in sorted(ROOT.glob("crates/*/specs/*.antt")):
             crate = file.parent.parent.name
             named = f"`{crate}/specs/`" in architecture or file.name in architecture or file.name == "Lib.antt"
@@ -155,12 +155,23 @@ class Checker:
                 self.expect("docs/CONTRACTS.md", f"{heading}: {quoted}", [w for w in words if w not in known], [])
 
 
-def main():
-    program = ROOT / "bin" / "artiq_sim"
+def is_named(crate, text):
+    """Whether a text names the crate, or in backquotes a family of crates that it is of, as `core_code_*`."""
+    families = [family.replace("*", r"\w+") for family in re.findall(r"`(\*_\w+|\w+_\*)`", text)]
+    return re.search(rf"\b{crate}\b", text) is not None or any(re.fullmatch(family, crate) for family in families)
+
+
+def program_named(usage):
+    """Returns the program that the words name, else the launcher; ends with the usage at other words."""
     if len(sys.argv) == 3 and sys.argv[1] == "--program":
-        program = pathlib.Path(sys.argv[2]).resolve()
-    elif len(sys.argv) != 1:
-        sys.exit(__doc__)
+        return pathlib.Path(sys.argv[2]).resolve()
+    if len(sys.argv) != 1:
+        sys.exit(usage)
+    return ROOT / "bin" / "artiq_sim"
+
+
+def main():
+    program = program_named(__doc__)
     # The launcher tells of its building on standard error, where a text's line is looked for; so it builds now.
     subprocess.run([program, "check"], stdin=subprocess.DEVNULL, stdout=subprocess.DEVNULL, check=False)
     with tempfile.TemporaryDirectory() as folder:
@@ -174,4 +185,5 @@ def main():
     sys.exit(1 if checker.wrong else 0)
 
 
-main()
+if __name__ == "__main__":
+    main()
