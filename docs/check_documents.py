@@ -141,7 +141,7 @@ class Checker:
         readme = (ROOT / "README.md").read_text()
         for crate in crates:
             for page, text in (("README.md", readme), ("docs/ARCHITECTURE.md", architecture)):
-                self.expect(page, f"names {crate}", is_named(crate, text), True)
+                self.expect(page, f"names {crate}", re.search(rf"\b{crate}\b", text) is not None, True)
         for file in sorted(ROOT.glob("crates/*/specs/*.antt")):
             crate = file.parent.parent.name
             named = f"`{crate}/specs/`" in architecture or file.name in architecture or file.name == "Lib.antt"
@@ -153,12 +153,6 @@ class Checker:
             for quoted in re.findall(r"`([^`\n]+)`", section) if files else []:
                 words = [] if "/" in quoted else re.findall(r"[A-Za-z_]\w*", quoted)
                 self.expect("docs/CONTRACTS.md", f"{heading}: {quoted}", [w for w in words if w not in known], [])
-
-
-def is_named(crate, text):
-    """Whether a text names the crate, or in backquotes a family of crates that it is of, as `core_code_*`."""
-    families = [family.replace("*", r"\w+") for family in re.findall(r"`(\*_\w+|\w+_\*)`", text)]
-    return re.search(rf"\b{crate}\b", text) is not None or any(re.fullmatch(family, crate) for family in families)
 
 
 def program_named(usage):
