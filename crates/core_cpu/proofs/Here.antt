@@ -22,7 +22,7 @@ use Rattle.core_isa.proofs.Decided.{found_one}
 use Rattle.core_isa.proofs.Reopened.{opened_somewhere}
 use Rattle.core_isa.proofs.Safe.{place_of_mark}
 use Rattle.core_cpu.specs.Courses.{CanRun, Fits, TurnsTo}
-use Rattle.core_cpu.specs.Families.{changes_one, is_operator, HasShiftWidth}
+use Rattle.core_cpu.specs.Families.{changes_one, is_operator, is_plain, HasShiftWidth}
 use Rattle.core_cpu.specs.Layout.{Held}
 use Rattle.core_cpu.specs.Returning.{CanLeave}
 use Rattle.core_cpu.specs.declared.course.Course.{Course}
@@ -232,6 +232,23 @@ operator_follow code f place mark I.Lt two follow = follow
 operator_follow code f place mark I.Le two follow = follow
 operator_follow code f place mark I.Max two follow = follow
 operator_follow code f place mark i two follow = absurd (false≢true two)
+
+-- the same of an operator that has a result of all values
+pub plain_follow : (code : Code) (f : CodeFunction) (place : ℕ) (mark : Mark) (i : Instr) → IsTrue (is_plain i) → MarksFollow code f place mark i → GoesOn code place mark 2 1
+plain_follow code f place mark I.Add two follow = follow
+plain_follow code f place mark I.Sub two follow = follow
+plain_follow code f place mark I.Mul two follow = follow
+plain_follow code f place mark I.And two follow = follow
+plain_follow code f place mark I.Or two follow = follow
+plain_follow code f place mark I.Xor two follow = follow
+plain_follow code f place mark (I.Shl w) two follow = follow
+plain_follow code f place mark (I.Shr w) two follow = follow
+plain_follow code f place mark I.Eq two follow = follow
+plain_follow code f place mark I.Ne two follow = follow
+plain_follow code f place mark I.Lt two follow = follow
+plain_follow code f place mark I.Le two follow = follow
+plain_follow code f place mark I.Max two follow = follow
+plain_follow code f place mark i two follow = absurd (false≢true two)
 
 -- the width of a shift is there
 pub shift_exists : (code : Code) (f : CodeFunction) (i : Instr) → OperandsExist code f i → HasShiftWidth i

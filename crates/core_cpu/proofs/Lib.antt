@@ -2,6 +2,7 @@ pub mod Entering
 pub mod Follow
 pub mod FrameCount
 pub mod Here
+pub mod Hurrying
 pub mod Nearness
 pub mod Pieces
 pub mod Raising

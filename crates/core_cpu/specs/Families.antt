@@ -23,6 +23,12 @@ is_operator I.Le = true
 is_operator I.Max = true
 is_operator i = false
 
+-- an operator that has a result of all values
+abbrev pub is_plain : Instr → Bool
+is_plain I.Div = false
+is_plain I.Mod = false
+is_plain i = is_operator i
+
 -- the width of a shift is 32 or 64
 abbrev pub HasShiftWidth : Instr → Type 0
 HasShiftWidth (I.Shl w) = IsShiftWidth w

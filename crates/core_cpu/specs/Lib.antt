@@ -1,5 +1,6 @@
 pub mod Courses
 pub mod Families
+pub mod Hurrying
 pub mod Layout
 pub mod Moments
 pub mod Nearness

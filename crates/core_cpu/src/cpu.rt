@@ -107,7 +107,7 @@ impl<'a> Cpu<'a> {
                 return Ok(Stop::Ask(request));
             }
         }
-        while self.ready() {
+        while self.goes_on(alloc) {
             if let Some(request) = self.step(alloc)? {
                 return Ok(Stop::Ask(request));
             }
@@ -178,6 +178,37 @@ impl<'a> Cpu<'a> {
         let (phase, asks) = settled(course);
         self.phase = phase;
         asks
+    }
+
+    // Runs instructions in a row where one comes next, and tells whether there is one more, which `step` runs.
+    fn goes_on(&mut self, alloc: Global) -> bool
+        ensures code { self.new.code ≡ self.old.code }
+        ensures stands { (start : Start) (asked : List Request) (replies : List Reply) →
+            Stands start asked replies self.old → Stands start asked replies self.new }
+        ensures asking { is_asking self.old.phase ≡ false → is_asking self.new.phase ≡ false }
+        ensures playing { is_playing self.old.phase ≡ false → is_playing self.new.phase ≡ false }
+        ensures nearer { nearness self.new ≤ nearness self.old }
+        ensures ready { result ≡ is_ready self.new.phase }
+    {
+        if self.ready() {
+            self.hurry(alloc);
+        }
+        self.ready()
+    }
+
+    // Runs instructions in a row that ask nothing, from one that comes next.
+    fn hurry(&mut self, alloc: Global)
+        requires { IsTrue (is_ready self.old.phase) }
+        ensures code { self.new.code ≡ self.old.code }
+        ensures stands { (start : Start) (asked : List Request) (replies : List Reply) →
+            Stands start asked replies self.old → Stands start asked replies self.new }
+        ensures asking { is_asking self.new.phase ≡ false }
+        ensures playing { is_playing self.new.phase ≡ false }
+        ensures nearer { nearness self.new ≤ nearness self.old }
+    {
+        let code = self.code.code();
+        let way = self.state.hurry(alloc, code);
+        self.phase = after(way);
     }
 
     // Runs the instruction at its place. Where there is no memory for it nothing has happened.

@@ -34,6 +34,18 @@ impl<T: Copy + Drop> Stack<T> {
     }
 }
 
+impl<T> Stack<T> {
+    /// A stack without room. It takes no memory.
+    pub fn none(alloc: Global) -> Stack<T>
+        ensures { result ≡ ([], 0) }
+    {
+        Stack {
+            items: Vec::new(alloc),
+            free: 0,
+        }
+    }
+}
+
 impl<T: Copy> Stack<T> {
     /// How many items it has.
     pub fn count(&self) -> usize

@@ -9,6 +9,7 @@ ghost use Rattle.core_cpu.specs.declared.course.Way.TheVariants.{Goes};
 
 pub mod calls;
 pub mod control;
+pub mod frequent;
 pub mod operators;
 pub mod outputs;
 pub mod recordings;
@@ -96,4 +97,12 @@ pub fn line_of(code: &Code, place: u32) -> CodeLine
     ensures { slice_get code.now.lines place ≡ Some result }
 {
     code.lines.items()[place as usize]
+}
+
+/// One of the lines as it lies there.
+pub fn line_at(lines: &[CodeLine], place: u32) -> &CodeLine
+    requires { place < length lines.now }
+    ensures { slice_get lines.now place ≡ Some result.now }
+{
+    &lines[place as usize]
 }

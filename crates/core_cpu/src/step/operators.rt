@@ -6,7 +6,7 @@ ghost use Rattle.core_isa.specs.Machine.{Machine, push, with_operands};
 ghost use Rattle.core_isa.specs.Steps.{act, push_or_raise};
 ghost use Rattle.core_isa.specs.declared.code.Code.{Code};
 ghost use Rattle.core_cpu.specs.Courses.{Fits, TurnsTo};
-ghost use Rattle.core_cpu.specs.Families.{changes_one, is_operator, HasShiftWidth};
+ghost use Rattle.core_cpu.specs.Families.{changes_one, is_operator, is_plain, HasShiftWidth};
 ghost use Rattle.core_cpu.specs.declared.course.Course.TheVariants.{Silent};
 
 use super::{gives, raises};
@@ -58,8 +58,45 @@ pub fn combine(state: &mut State, instr: Instr) -> Way
     }
 }
 
-// What becomes of one value.
-fn changed(instr: Instr, a: i64) -> i64
+// The result of an operator on two values that has one for all of them.
+fn plain(instr: &Instr, a: i64, b: i64) -> i64
+    requires operator { IsTrue (is_plain instr.now) }
+    requires width { HasShiftWidth instr.now }
+    ensures { (code : Code) (m : Machine) (rest : List ℤ) →
+        act code instr.now (with_operands m (b ∷ a ∷ rest)) ≡ push result (with_operands m rest) }
+{
+    match instr {
+        Instr::Add => a.wrapping_add(b),
+        Instr::Sub => a.wrapping_sub(b),
+        Instr::Mul => a.wrapping_mul(b),
+        Instr::And => a & b,
+        Instr::Or => a | b,
+        Instr::Xor => a ^ b,
+        Instr::Shl(width) => shifted_left(a, b, *width),
+        Instr::Shr(width) => shifted_right(a, b, *width),
+        Instr::Eq => i64::from(a == b),
+        Instr::Ne => i64::from(a != b),
+        Instr::Lt => i64::from(a < b),
+        Instr::Le => i64::from(a <= b),
+        Instr::Max => a.max(b),
+        _ => unreachable!(),
+    }
+}
+
+/// Such an operator on the two topmost operands.
+pub fn combine_plain(state: &mut State, instr: &Instr) -> Way
+    requires operator { IsTrue (is_plain instr.now) }
+    requires width { HasShiftWidth instr.now }
+    requires fits { Fits 2 1 state.old }
+    ensures { (code : Code) → TurnsTo (act code instr.now) state.old (Silent result) state.new }
+{
+    let b = state.pop();
+    let a = state.pop();
+    gives(state, plain(instr, a, b))
+}
+
+/// What becomes of one value.
+pub fn changed(instr: Instr, a: i64) -> i64
     requires { IsTrue (changes_one instr) }
     ensures { (code : Code) (m : Machine) (rest : List ℤ) →
         act code instr (with_operands m (a ∷ rest)) ≡ push result (with_operands m rest) }

@@ -1,6 +1,7 @@
-use Rattle.std.proofs.Common.{◌≡◌, ◌++◌, true, None, Some, refl, sym, ◌∙◌, ap, subst}
+use Rattle.std.proofs.Common.{◌≡◌, ◌<◌, ◌≤◌, ◌++◌, true, None, Some, refl, sym, ◌∙◌, ap, subst, arith}
 use Rattle.std.specs.Prelude.{is_some, option_to_list}
 use Rattle.core_cpu.specs.Moments.{is_ready}
+use Rattle.core_cpu.specs.Nearness.{nearness}
 use Rattle.core_cpu.specs.Standing.{Stands}
 use Rattle.core_cpu.proofs.Stops.{stands_same, stands_stepped, nothing_asked, asks_at, ended_at}
 use Rattle.core_cpu.proofs.cpu.Cpu.advance.Goals as goal
@@ -20,7 +21,7 @@ returns-in-Some-clause-stops c =
 
 pub returns-in-Some-2-clause-stops : goal.returns-in-Some-2-clause-stops
 returns-in-Some-2-clause-stops c =
-    let ready : is_ready c.loop-alloc.self.phase ≡ true = sym c.ready.ensures ∙ c.loop-alloc-test.true in
+    let ready : is_ready c.goes_on.new.self.phase ≡ true = sym c.goes_on.ensures.ready ∙ c.loop-alloc-test.true in
     let some : is_some c.in_ok-request.field-0 ≡ true = ap is_some c.in-Some-2.is in
     λ start asked replies stands.
     asks_at
@@ -38,23 +39,26 @@ returns-in-Some-2-clause-stops c =
     start
     asked
     replies
-    c.loop-alloc.self
+    c.goes_on.new.self
     c.step.new.self
     c.in_ok-request.field-0
     ready
     c.step.ensures.code
     c.in_ok-request.ensures.goes
-    (c.loop-alloc.invariant.stands start asked replies stands)))
+    (c.goes_on.ensures.stands start asked replies (c.loop-alloc.invariant.stands start asked replies stands))))
 
 pub loop-alloc-smaller : goal.loop-alloc-smaller
-loop-alloc-smaller c = c.in_ok-request.ensures.nearer
+loop-alloc-smaller c =
+    let less : nearness c.step.new.self < nearness c.goes_on.new.self = c.in_ok-request.ensures.nearer in
+    let near : nearness c.goes_on.new.self ≤ nearness c.loop-alloc.self = c.goes_on.ensures.nearer in
+    omega arith
 
 pub loop-alloc-preserved : goal.loop-alloc-preserved
 loop-alloc-preserved c =
-    let ready : is_ready c.loop-alloc.self.phase ≡ true = sym c.ready.ensures ∙ c.loop-alloc-test.true in
+    let ready : is_ready c.goes_on.new.self.phase ≡ true = sym c.goes_on.ensures.ready ∙ c.loop-alloc-test.true in
     let none : c.in_ok-request.field-0 ≡ None = c.in_default-2.is in
     record {
-      code = c.step.ensures.code ∙ c.loop-alloc.invariant.code;
+      code = c.step.ensures.code ∙ c.goes_on.ensures.code ∙ c.loop-alloc.invariant.code;
       stands = λ start asked replies stands.
           nothing_asked
           start
@@ -68,13 +72,13 @@ loop-alloc-preserved c =
           start
           asked
           replies
-          c.loop-alloc.self
+          c.goes_on.new.self
           c.step.new.self
           c.in_ok-request.field-0
           ready
           c.step.ensures.code
           c.in_ok-request.ensures.goes
-          (c.loop-alloc.invariant.stands start asked replies stands)));
+          (c.goes_on.ensures.stands start asked replies (c.loop-alloc.invariant.stands start asked replies stands))));
       asking = c.in_ok-request.ensures.asks ∙ ap is_some none;
       playing = c.in_ok-request.ensures.plays;
     }
@@ -86,8 +90,8 @@ returns-clause-stops c =
     start
     asked
     replies
-    c.loop-alloc.self
+    c.goes_on.new.self
     c.outcome.result
     c.outcome.ensures.over
     c.outcome.ensures.proper
-    (c.loop-alloc.invariant.stands start asked replies stands)
+    (c.goes_on.ensures.stands start asked replies (c.loop-alloc.invariant.stands start asked replies stands))
