@@ -1,6 +1,5 @@
 -- What the reading functions of the parser need at their exits.
 use Rattle.std.proofs.Common.{◌≡◌, ◌≢◌, ℕ, zero, suc, ◌-◌, ◌≤◌, Bool, List, [], ◌∷◌, refl, sym, ◌∙◌, ap, subst, arith, length, drop, get_or}
-use Rattle.std.proofs.lemmas.Bool.{ne_eqb}
 use Rattle.std.specs.Prelude.{Option, Some, Result, Ok, Err}
 use Rattle.kern_lexer.specs.Bytes.{Bytes}
 use Rattle.kern_lexer.specs.Symbols.{Symbol, symbol_of}
@@ -13,7 +12,7 @@ use Rattle.kern_expressions.specs.declared.read_end.ReadEnd.{ReadEnd}
 use Rattle.kern_expressions.specs.declared.read_end.ReadEnd.TheVariants as E
 use Rattle.kern_expressions.specs.declared.tokens.Tokens.{Tokens}
 use Rattle.kern_grammar.specs.Operators.{first_joiner, join}
-use Rattle.kern_grammar.specs.Reading.{Read, Reader, Inside, ◌>>=◌, choose, rows, kind_of, at_level, row, row_behind, level_reader, readers, closed, enclosed, operand, first_form, prefixed, value, value_item, comparison, comparison_behind, end_of_comparison, first_comparison, inside_of}
+use Rattle.kern_grammar.specs.Reading.{Read, Reader, Inside, ◌>>=◌, choose, row_behind, level_reader, readers, closed, enclosed, operand, first_form, prefixed, value, value_item, comparison_behind, end_of_comparison, first_comparison, inside_of}
 use Rattle.kern_expressions.specs.Given.{GivesRead, symbols_left, IsReadEnd}
 use Rattle.kern_grammar.specs.Spelled.{symbols_in}
 use Rattle.kern_grammar.proofs.RowReads.{row_behind-some, then_ok}
@@ -96,33 +95,20 @@ value_end end room symbols h r =
 pub value_found : (room : ℕ) (symbols after : List Symbol) (e : Expression) → room ≢ 0 → level_reader (inside_of (room - 1)) 11 symbols ≡ Ok (e, after) → value_item (inside_of room) symbols ≡ Ok (value e, after)
 value_found room symbols after e h r = value_read room symbols h ∙ then_ok (level_reader (inside_of (room - 1)) 11 symbols) e after (λ e. Ok (value e.0, e.1)) r
 
--- a comparison behind a left operand that was read
-comparison_there : (tighter : Reader) (symbols behind rest : List Symbol) (left : Expression) (op : Comparison) → tighter symbols ≡ Ok (left, behind) → first_comparison behind ≡ Some op → rest ≡ drop 1 behind → comparison tighter symbols ≡ (tighter rest >>= λ right. end_of_comparison (compare op left right.0) right.1)
-comparison_there tighter symbols behind rest left op l f d =
-    then_ok (tighter symbols) left behind (λ left. comparison_behind tighter left.0 left.1) l
-    ∙ ap (λ o. choose o (Ok (left, behind)) (λ op. tighter (drop 1 behind) >>= λ right. end_of_comparison (compare op left right.0) right.1)) f
+-- a comparison behind its left operand
+comparison_there : (tighter : Reader) (behind rest : List Symbol) (left : Expression) (op : Comparison) → first_comparison behind ≡ Some op → rest ≡ drop 1 behind → comparison_behind tighter left behind ≡ (tighter rest >>= λ right. end_of_comparison (compare op left right.0) right.1)
+comparison_there tighter behind rest left op f d =
+    ap (λ o. choose o (Ok (left, behind)) (λ op. tighter (drop 1 behind) >>= λ right. end_of_comparison (compare op left right.0) right.1)) f
     ∙ ap (λ y. tighter y >>= λ right. end_of_comparison (compare op left right.0) right.1) (sym d)
 
-pub comparison_end : (end : ReadEnd) (tighter : Reader) (symbols behind rest : List Symbol) (left : Expression) (op : Comparison) → tighter symbols ≡ Ok (left, behind) → first_comparison behind ≡ Some op → rest ≡ drop 1 behind → IsReadEnd end (tighter rest) → IsReadEnd end (comparison tighter symbols)
-comparison_end end tighter symbols behind rest left op l f d r =
-    subst (IsReadEnd end) (sym (comparison_there tighter symbols behind rest left op l f d)) (end_passes end (tighter rest) (λ right. end_of_comparison (compare op left right.0) right.1) r)
+pub comparison_end : (end : ReadEnd) (tighter : Reader) (behind rest : List Symbol) (left : Expression) (op : Comparison) → first_comparison behind ≡ Some op → rest ≡ drop 1 behind → IsReadEnd end (tighter rest) → IsReadEnd end (comparison_behind tighter left behind)
+comparison_end end tighter behind rest left op f d r =
+    subst (IsReadEnd end) (sym (comparison_there tighter behind rest left op f d)) (end_passes end (tighter rest) (λ right. end_of_comparison (compare op left right.0) right.1) r)
 
-pub comparison_ok : (tighter : Reader) (symbols behind rest after : List Symbol) (left right built : Expression) (op : Comparison) → tighter symbols ≡ Ok (left, behind) → first_comparison behind ≡ Some op → rest ≡ drop 1 behind → tighter rest ≡ Ok (right, after) → built ≡ compare op left right → end_of_comparison built after ≡ comparison tighter symbols
-comparison_ok tighter symbols behind rest after left right built op l f d r b =
+pub comparison_ok : (tighter : Reader) (behind rest after : List Symbol) (left right built : Expression) (op : Comparison) → first_comparison behind ≡ Some op → rest ≡ drop 1 behind → tighter rest ≡ Ok (right, after) → built ≡ compare op left right → end_of_comparison built after ≡ comparison_behind tighter left behind
+comparison_ok tighter behind rest after left right built op f d r b =
     ap (λ x. end_of_comparison x after) b
-    ∙ sym (comparison_there tighter symbols behind rest left op l f d ∙ then_ok (tighter rest) right after (λ right. end_of_comparison (compare op left right.0) right.1) r)
-
-rows_kind : (level : ℕ) → level ≢ 1 → level ≢ 8 → level ≢ 9 → kind_of level ≡ rows
-rows_kind level a b c = rw (ne_eqb level 1 a, ne_eqb level 8 b, ne_eqb level 9 c) refl
-
--- a level of rows
-pub row_level : (inside : Inside) (level : ℕ) (symbols : List Symbol) → level ≢ 0 → level ≢ 1 → level ≢ 8 → level ≢ 9 → level_reader inside level symbols ≡ row 16 level (level_reader inside (level - 1)) symbols
-row_level inside zero symbols a b c d = absurd (a refl)
-row_level inside (suc level) symbols a b c d =
-    let kind : kind_of (suc level) ≡ rows = rows_kind (suc level) b c d in
-    let same : level ≡ suc level - 1 = omega arith in
-    ap (λ k. at_level k inside (suc level) (level_reader inside level) symbols) kind
-    ∙ ap (λ l. row 16 (suc level) (level_reader inside l) symbols) same
+    ∙ sym (comparison_there tighter behind rest left op f d ∙ then_ok (tighter rest) right after (λ right. end_of_comparison (compare op left right.0) right.1) r)
 
 -- a row goes on behind a joiner, in a loop that counts down
 pub row_step : (more level : ℕ) (tighter : Reader) (e : Expression) (symbols : List Symbol) (j : Joiner) → more ≢ 0 → first_joiner level symbols ≡ Some j → row_behind more level tighter e symbols ≡ (tighter (drop 1 symbols) >>= λ right. row_behind (more - 1) level tighter (join j e right.0) right.1)

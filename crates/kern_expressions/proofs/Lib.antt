@@ -1,3 +1,4 @@
 mod ArgumentLists
 mod Exits
 mod Lexemes
+mod Passing

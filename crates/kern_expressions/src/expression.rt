@@ -3,17 +3,18 @@
 //! A level is how loosely an expression's form binds: 0 for an atom, 11 for `or`. The room is the
 //! number of nestings that may still be opened.
 
-ghost use Rattle.std.specs.Prelude.{◌≡◌, ◌≤◌, ◌-◌, IfOk, OnOk};
+ghost use Rattle.std.specs.Prelude.{◌≡◌, ◌≢◌, ◌≤◌, ◌-◌, IfOk, OnOk};
 ghost use Rattle.kern_expressions.specs.Given.{FindsExpression, GivesExpression, symbols_left};
+ghost use Rattle.kern_expressions.specs.Passing.{behind_operand, front_level};
 ghost use Rattle.kern_expressions.specs.TakenBy.{GivesTaken, lexemes_left};
 ghost use Rattle.kern_grammar.specs.Operators.{join};
-ghost use Rattle.kern_grammar.specs.Reading.{comparison, end_of_comparison, inside_of, level_reader, not_at, prefixed, row, unary_at};
+ghost use Rattle.kern_grammar.specs.Reading.{comparison_behind, end_of_comparison, inside_of, level_reader, not_at, prefixed, row_behind, unary_at};
 ghost use Rattle.kern_grammar.specs.SimplePlans.{take_expression};
 ghost use Rattle.kern_syntax.specs.Tree.{compare, negation, unary};
 ghost use Rattle.kern_syntax.specs.TreeOf.{expression_of};
 
 use crate::atom::atom_at;
-use crate::operator::{begins_with_not, comparison_at, joiner_at, prefix_at};
+use crate::operator::{begins_with_not, comparison_at, joiner_at, level_of_operator, prefix_at};
 use crate::read_end::{ReadEnd, WrongToken};
 use crate::tokens::Tokens;
 use kern_grammar::Joiner;
@@ -58,7 +59,20 @@ fn negated(alloc: Global, operand: Expr) -> Result<Expr, AllocError>
     Ok(Expr::Not(Box::new(alloc, operand)?))
 }
 
-/// An expression at a level.
+/// The level at which what stands first is read: that of `not` where it stands first and may stand
+/// there, else that of prefixes, or of atoms where no more is asked for.
+fn front_level(level: u32, tokens: Tokens) -> u32
+    ensures { result ≡ front_level level (symbols_left tokens.entry) }
+{
+    if level >= 9 && begins_with_not(tokens) {
+        9
+    } else {
+        level.min(1)
+    }
+}
+
+/// An expression at a level. Only a level of which an operator stands there is entered: the others
+/// read what the next tighter one reads.
 #[cycle(levels)]
 pub fn level_at<'a>(
     alloc: Global,
@@ -69,31 +83,79 @@ pub fn level_at<'a>(
     requires { level ≤ 11 }
     ensures { GivesExpression result (level_reader (inside_of room) level (symbols_left tokens.entry)) }
 {
-    match level {
-        0 => atom_at(alloc, room, tokens),
-        1 => prefixed_at(alloc, room, tokens),
-        8 => compared_at(alloc, room, tokens),
-        9 => negation_at(alloc, room, tokens),
-        _ => row_at(alloc, room, level, tokens),
+    let mut reached = front_level(level, tokens);
+    let (first, after) = front_at(alloc, room, reached, tokens)?;
+    let mut e = first;
+    let mut rest = after;
+    'levels: loop {
+        let next = level_of_operator(rest);
+        if next <= reached {
+            return Ok((e, rest));
+        }
+        if next > level {
+            return Ok((e, rest));
+        }
+        let (longer, behind) = operators_at(alloc, room, next, e, rest)?;
+        e = longer;
+        rest = behind;
+        reached = next;
     }
 }
 
-/// A row of operators of a level.
+/// What stands before the operators: an atom, a prefix and its operand, or `not` and its operand.
 #[cycle(levels)]
-fn row_at<'a>(
+fn front_at<'a>(
     alloc: Global,
     room: u32,
     level: u32,
     tokens: Tokens<'a>,
 ) -> Result<(Expr, Tokens<'a>), ReadEnd<'a>>
+    requires { (level ≢ 0) → (level ≢ 9) → level ≡ 1 }
+    ensures { GivesExpression result (level_reader (inside_of room) level (symbols_left tokens.entry)) }
+{
+    match level {
+        0 => atom_at(alloc, room, tokens),
+        9 => negation_at(alloc, room, tokens),
+        _ => prefixed_at(alloc, room, tokens),
+    }
+}
+
+/// What goes on with an operand at a level, of which an operator stands there.
+#[cycle(levels)]
+fn operators_at<'a>(
+    alloc: Global,
+    room: u32,
+    level: u32,
+    left: Expr,
+    tokens: Tokens<'a>,
+) -> Result<(Expr, Tokens<'a>), ReadEnd<'a>>
     requires positive { 1 ≤ level }
     requires known { level ≤ 11 }
-    ensures { GivesExpression result
-        (row 16 level (level_reader (inside_of room) (level - 1)) (symbols_left tokens.entry)) }
+    ensures { GivesExpression result (behind_operand level (level_reader (inside_of room) (level - 1))
+        (expression_of left) (symbols_left tokens.entry)) }
 {
-    let (first, after) = level_at(alloc, room, level - 1, tokens)?;
-    let mut e = first;
-    let mut rest = after;
+    match level {
+        8 => compared_at(alloc, room, left, tokens),
+        _ => row_at(alloc, room, level, left, tokens),
+    }
+}
+
+/// A row of operators of a level, behind its first operand.
+#[cycle(levels)]
+fn row_at<'a>(
+    alloc: Global,
+    room: u32,
+    level: u32,
+    left: Expr,
+    tokens: Tokens<'a>,
+) -> Result<(Expr, Tokens<'a>), ReadEnd<'a>>
+    requires positive { 1 ≤ level }
+    requires known { level ≤ 11 }
+    ensures { GivesExpression result (row_behind 16 level (level_reader (inside_of room) (level - 1))
+        (expression_of left) (symbols_left tokens.entry)) }
+{
+    let mut e = left;
+    let mut rest = tokens;
     let mut more = MOST_TURNS;
     'turns: loop {
         let joiner = match joiner_at(level, rest) {
@@ -121,7 +183,7 @@ fn prefixed_at<'a>(
         (prefixed unary_at (inside_of room) 1 (level_reader (inside_of room) 0) (symbols_left tokens.entry)) }
 {
     let op = match prefix_at(tokens) {
-        None => return level_at(alloc, room, 0, tokens),
+        None => return atom_at(alloc, room, tokens),
         Some(op) => op,
     };
     if room == 0 {
@@ -132,22 +194,22 @@ fn prefixed_at<'a>(
     Ok((e, rest))
 }
 
-/// A comparison that no other follows, or an operand of one.
+/// A comparison that no other follows, behind its left operand.
 #[cycle(levels)]
 fn compared_at<'a>(
     alloc: Global,
     room: u32,
+    left: Expr,
     tokens: Tokens<'a>,
 ) -> Result<(Expr, Tokens<'a>), ReadEnd<'a>>
-    ensures { GivesExpression result
-        (comparison (level_reader (inside_of room) 7) (symbols_left tokens.entry)) }
+    ensures { GivesExpression result (comparison_behind (level_reader (inside_of room) 7)
+        (expression_of left) (symbols_left tokens.entry)) }
 {
-    let (left, behind) = level_at(alloc, room, 7, tokens)?;
-    let op = match comparison_at(behind) {
-        None => return Ok((left, behind)),
+    let op = match comparison_at(tokens) {
+        None => return Ok((left, tokens)),
         Some(op) => op,
     };
-    let (right, rest) = level_at(alloc, room, 7, behind.tail())?;
+    let (right, rest) = level_at(alloc, room, 7, tokens.tail())?;
     let e = compared(alloc, op, left, right)?;
     let (whole, end) = ended_comparison(e, rest)?;
     Ok((whole, end))

@@ -5,6 +5,7 @@ ghost use Rattle.kern_lexer.specs.Symbols.{symbol_of};
 ghost use Rattle.kern_lexer.specs.Bytes.{Bytes};
 ghost use Rattle.std.specs.Prelude.{Some, None, if◌then◌else◌, option_map};
 ghost use Rattle.kern_expressions.specs.Given.{symbols_left};
+ghost use Rattle.kern_expressions.specs.Passing.{level_of_symbol, operator_level};
 ghost use Rattle.kern_grammar.specs.Operators.{first_joiner, if_of_level, joiner_of, joiner_level, comparison_of};
 ghost use Rattle.kern_grammar.specs.Reading.{first_comparison, first_form, not_at, prefix_form, unary_at};
 ghost use Rattle.kern_syntax.specs.Tree.{negation};
@@ -73,6 +74,40 @@ pub fn joiner_at(level: u32, tokens: Tokens) -> Option<Joiner>
     match tokens.list {
         [] => None,
         [first, ..] => of_level(level, joiner_of_kind(first.kind)),
+    }
+}
+
+fn level_of_kind(kind: TokenKind) -> u32
+    ensures { (text : Bytes) (at len : ℕ) → result ≡ level_of_symbol (symbol_of text at len kind) }
+{
+    match kind {
+        TokenKind::Sign(Sign::Star | Sign::DoubleSlash | Sign::Percent) => 2,
+        TokenKind::Sign(Sign::Plus | Sign::Minus) => 3,
+        TokenKind::Sign(Sign::ShiftLeft | Sign::ShiftRight) => 4,
+        TokenKind::Sign(Sign::Ampersand) => 5,
+        TokenKind::Sign(Sign::Caret) => 6,
+        TokenKind::Sign(Sign::Bar) => 7,
+        TokenKind::Sign(
+            Sign::Equal
+            | Sign::NotEqual
+            | Sign::Less
+            | Sign::LessEqual
+            | Sign::Greater
+            | Sign::GreaterEqual,
+        ) => 8,
+        TokenKind::Key(Key::And) => 10,
+        TokenKind::Key(Key::Or) => 11,
+        _ => 0,
+    }
+}
+
+/// The level of the operator that the tokens begin with, 0 where they begin with none.
+pub fn level_of_operator(tokens: Tokens) -> u32
+    ensures { result ≡ operator_level (symbols_left tokens.entry) }
+{
+    match tokens.list {
+        [] => 0,
+        [first, ..] => level_of_kind(first.kind),
     }
 }
 

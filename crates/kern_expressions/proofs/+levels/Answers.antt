@@ -4,11 +4,12 @@ use Rattle.std.proofs.lemmas.Result.{err_from_is_err_and}
 use Rattle.kern_syntax.specs.Tree.{element, group, negation}
 use Rattle.kern_syntax.specs.TreeOf.{expression_of}
 use Rattle.kern_lexer.specs.Symbols.{Symbol}
-use Rattle.kern_expressions.specs.Given.{GivesExpression, item_of, symbols_left}
-use Rattle.kern_grammar.specs.Reading.{level_reader, comparison, prefixed, row, items, is_close_bracket, is_close_parenthesis, first_form, prefix_form, unary_at, not_at, inside_of}
+use Rattle.kern_expressions.specs.Given.{IsReadEnd, item_of, symbols_left}
+use Rattle.kern_grammar.specs.Reading.{level_reader, comparison_behind, prefixed, row_behind, items, is_close_bracket, is_close_parenthesis, first_form, prefix_form, unary_at, not_at, inside_of}
 use Rattle.kern_expressions.specs.declared.read_end.ReadEnd.TheVariants as E
 use Rattle.kern_expressions.proofs.ArgumentLists.{none_so_far, one_more, no_more_left, comma_end, item_end, next_shorter}
-use Rattle.kern_expressions.proofs.Exits.{given_end, enclosed_end, enclosed_ok, value_end, value_found, comparison_end, comparison_ok, prefixed_end, prefixed_ok, row_level, row_end, row_next}
+use Rattle.kern_expressions.proofs.Passing.{Reaches, front-reaches, level-goes_on, levels-ended, levels-passed, reaches-next}
+use Rattle.kern_expressions.proofs.Exits.{given_end, enclosed_end, enclosed_ok, value_end, value_found, comparison_end, comparison_ok, prefixed_end, prefixed_ok, row_end, row_next}
 use Rattle.kern_grammar.proofs.SpelledLists.{first_quotable}
 use Rattle.kern_expressions.proofs.+levels.Goals as goal
 
@@ -88,25 +89,61 @@ atom::value_at-returns t c =
 
 pub expression::compared_at-returns-in_err-right : goal.expression::compared_at-returns-in_err-right
 expression::compared_at-returns-in_err-right t c =
-    let p = err_from_is_err_and c.from_residual-in_err-right.result c.from_residual-in_err-right.ensures.1 in
-    given_end expression_of c.from_residual-in_err-right.result c.in_err-right.field-0.0 (comparison (level_reader (inside_of c.args.room) 7) (symbols_left c.args.tokens)) (p.1 ∙ ap (λ e. Err e) p.2)
-    (comparison_end c.in_err-right.field-0.0 (level_reader (inside_of c.args.room) 7) (symbols_left c.args.tokens) (symbols_left c.in_ok-left.behind) (symbols_left c.tail.result) (expression_of c.in_ok-left.left) c.in-Some.op c.in_ok-left.ensures (sym c.comparison_at.ensures ∙ c.in-Some.is) c.tail.ensures.symbols c.in_err-right.ensures)
+    let p = err_from_is_err_and c.from_residual.result c.from_residual.ensures.1 in
+    let tighter = level_reader (inside_of c.args.room) 7 in
+    given_end expression_of c.from_residual.result c.in_err-right.field-0.0 (comparison_behind tighter (expression_of c.args.left) (symbols_left c.args.tokens)) (p.1 ∙ ap (λ e. Err e) p.2)
+    (comparison_end c.in_err-right.field-0.0 tighter (symbols_left c.args.tokens) (symbols_left c.tail.result) (expression_of c.args.left) c.in-Some.op (sym c.comparison_at.ensures ∙ c.in-Some.is) c.tail.ensures.symbols c.in_err-right.ensures)
 
 pub expression::compared_at-returns : goal.expression::compared_at-returns
 expression::compared_at-returns t c =
-    let same = comparison_ok (level_reader (inside_of c.args.room) 7) (symbols_left c.args.tokens) (symbols_left c.in_ok-left.behind) (symbols_left c.tail.result) (symbols_left c.in_ok-right.rest) (expression_of c.in_ok-left.left) (expression_of c.in_ok-right.right) (expression_of c.in_ok-e.e) c.in-Some.op c.in_ok-left.ensures (sym c.comparison_at.ensures ∙ c.in-Some.is) c.tail.ensures.symbols c.in_ok-right.ensures c.in_ok-e.ensures in
+    let same = comparison_ok (level_reader (inside_of c.args.room) 7) (symbols_left c.args.tokens) (symbols_left c.tail.result) (symbols_left c.in_ok-right.rest) (expression_of c.args.left) (expression_of c.in_ok-right.right) (expression_of c.in_ok-e.e) c.in-Some.op (sym c.comparison_at.ensures ∙ c.in-Some.is) c.tail.ensures.symbols c.in_ok-right.ensures c.in_ok-e.ensures in
     sym same ∙ c.in_ok-whole.ensures
 
 pub expression::compared_at-returns-in_err-whole : goal.expression::compared_at-returns-in_err-whole
 expression::compared_at-returns-in_err-whole t c =
     let p = err_from_is_err_and c.from_residual-in_err-whole.result c.from_residual-in_err-whole.ensures.1 in
-    let same = comparison_ok (level_reader (inside_of c.args.room) 7) (symbols_left c.args.tokens) (symbols_left c.in_ok-left.behind) (symbols_left c.tail.result) (symbols_left c.in_ok-right.rest) (expression_of c.in_ok-left.left) (expression_of c.in_ok-right.right) (expression_of c.in_ok-e.e) c.in-Some.op c.in_ok-left.ensures (sym c.comparison_at.ensures ∙ c.in-Some.is) c.tail.ensures.symbols c.in_ok-right.ensures c.in_ok-e.ensures in
-    given_end expression_of c.from_residual-in_err-whole.result (E.Fault c.in_err-whole.field-0.0.left) (comparison (level_reader (inside_of c.args.room) 7) (symbols_left c.args.tokens)) (p.1 ∙ ap (λ e. Err e) p.2) (sym same ∙ c.in_err-whole.ensures)
+    let tighter = level_reader (inside_of c.args.room) 7 in
+    let same = comparison_ok tighter (symbols_left c.args.tokens) (symbols_left c.tail.result) (symbols_left c.in_ok-right.rest) (expression_of c.args.left) (expression_of c.in_ok-right.right) (expression_of c.in_ok-e.e) c.in-Some.op (sym c.comparison_at.ensures ∙ c.in-Some.is) c.tail.ensures.symbols c.in_ok-right.ensures c.in_ok-e.ensures in
+    given_end expression_of c.from_residual-in_err-whole.result (E.Fault c.in_err-whole.field-0.0.left) (comparison_behind tighter (expression_of c.args.left) (symbols_left c.args.tokens)) (p.1 ∙ ap (λ e. Err e) p.2) (sym same ∙ c.in_err-whole.ensures)
 
-pub expression::level_at-returns-in_default : goal.expression::level_at-returns-in_default
-expression::level_at-returns-in_default t c =
-    let same = row_level (inside_of c.args.room) c.args.level (symbols_left c.args.tokens) (omega arith) (omega arith) (omega arith) (omega arith) in
-    subst (GivesExpression c.row_at.result) (sym same) c.row_at.ensures
+pub expression::level_at-returns-in_err-first : goal.expression::level_at-returns-in_err-first
+expression::level_at-returns-in_err-first t c =
+    let p = err_from_is_err_and c.from_residual.result c.from_residual.ensures.1 in
+    let symbols = symbols_left c.args.tokens in
+    let reaches : Reaches c.args.level c.front_level-reached.result symbols = subst (λ n. Reaches c.args.level n symbols) (sym c.front_level-reached.ensures) (front-reaches c.args.level symbols) in
+    rw (p.1, p.2) (levels-ended c.in_err-first.field-0.0 (inside_of c.args.room) c.args.level c.front_level-reached.result symbols reaches c.in_err-first.ensures)
+
+pub expression::level_at-returns-then-next-reached : goal.expression::level_at-returns-then-next-reached
+expression::level_at-returns-then-next-reached t c =
+    levels-passed (inside_of c.args.room) c.args.level c.levels.reached (symbols_left c.args.tokens) (symbols_left c.levels.rest) (expression_of c.levels.e) c.levels.invariant.reaches
+    (λ k a b q. omega (arith, a, q, c.level_of_operator-next.ensures, c.if-next-reached.true))
+    c.levels.invariant.same
+
+pub expression::level_at-returns-then-next-level : goal.expression::level_at-returns-then-next-level
+expression::level_at-returns-then-next-level t c =
+    levels-passed (inside_of c.args.room) c.args.level c.levels.reached (symbols_left c.args.tokens) (symbols_left c.levels.rest) (expression_of c.levels.e) c.levels.invariant.reaches
+    (λ k a b q. omega (arith, b, q, c.level_of_operator-next.ensures, c.if-next-level.true))
+    c.levels.invariant.same
+
+pub expression::level_at-returns-in_err-longer : goal.expression::level_at-returns-in_err-longer
+expression::level_at-returns-in_err-longer t c =
+    let p = err_from_is_err_and c.from_residual-in_err-longer.result c.from_residual-in_err-longer.ensures.1 in
+    let symbols = symbols_left c.args.tokens in
+    let inside = inside_of c.args.room in
+    let next = c.level_of_operator-next.result in
+    let goes = level-goes_on inside c.args.level c.levels.reached next symbols (symbols_left c.levels.rest) (expression_of c.levels.e) c.levels.invariant.reaches c.levels.invariant.same (sym c.level_of_operator-next.ensures) (omega (arith, c.if-next-reached.false)) (omega (arith, c.if-next-level.false)) in
+    let reaches = reaches-next c.args.level c.levels.reached next symbols c.levels.invariant.reaches (omega (arith, c.if-next-reached.false)) (omega (arith, c.if-next-level.false)) in
+    rw (p.1, p.2) (levels-ended c.in_err-longer.field-0.0 inside c.args.level next symbols reaches (subst (IsReadEnd c.in_err-longer.field-0.0) (sym goes) c.in_err-longer.ensures))
+
+pub expression::level_at-levels-preserved : goal.expression::level_at-levels-preserved
+expression::level_at-levels-preserved t c =
+    let symbols = symbols_left c.args.tokens in
+    let next = c.level_of_operator-next.result in
+    let goes = level-goes_on (inside_of c.args.room) c.args.level c.levels.reached next symbols (symbols_left c.levels.rest) (expression_of c.levels.e) c.levels.invariant.reaches c.levels.invariant.same (sym c.level_of_operator-next.ensures) (omega (arith, c.if-next-reached.false)) (omega (arith, c.if-next-level.false)) in
+    record {
+      reaches = reaches-next c.args.level c.levels.reached next symbols c.levels.invariant.reaches (omega (arith, c.if-next-reached.false)) (omega (arith, c.if-next-level.false));
+      same = goes ∙ c.in_ok-longer.ensures;
+    }
 
 pub expression::negation_at-returns-in_err-operand : goal.expression::negation_at-returns-in_err-operand
 expression::negation_at-returns-in_err-operand t c =
@@ -129,11 +166,11 @@ expression::prefixed_at-returns t c =
 
 pub expression::row_at-returns-in_err-right : goal.expression::row_at-returns-in_err-right
 expression::row_at-returns-in_err-right t c =
-    let p = err_from_is_err_and c.from_residual-in_err-right.result c.from_residual-in_err-right.ensures.1 in
+    let p = err_from_is_err_and c.from_residual.result c.from_residual.ensures.1 in
     let tighter = level_reader (inside_of c.args.room) (c.args.level - 1) in
-    rw (p.1, p.2) (row_end c.in_err-right.field-0.0 c.turns.more c.args.level tighter (expression_of c.turns.e) (symbols_left c.turns.rest) (symbols_left c.tail.result) c.in-Some.joiner (row 16 c.args.level tighter (symbols_left c.args.tokens)) c.turns.invariant c.if-more-eq0.false (sym c.joiner_at.ensures ∙ c.in-Some.is) c.tail.ensures.symbols c.in_err-right.ensures)
+    rw (p.1, p.2) (row_end c.in_err-right.field-0.0 c.turns.more c.args.level tighter (expression_of c.turns.e) (symbols_left c.turns.rest) (symbols_left c.tail.result) c.in-Some.joiner (row_behind 16 c.args.level tighter (expression_of c.args.left) (symbols_left c.args.tokens)) c.turns.invariant c.if-more-eq0.false (sym c.joiner_at.ensures ∙ c.in-Some.is) c.tail.ensures.symbols c.in_err-right.ensures)
 
 pub expression::row_at-turns-preserved : goal.expression::row_at-turns-preserved
 expression::row_at-turns-preserved t c =
     let tighter = level_reader (inside_of c.args.room) (c.args.level - 1) in
-    row_next c.turns.more c.args.level tighter (expression_of c.turns.e) (expression_of c.in_ok-right.right) (expression_of c.in_ok-e.e) (symbols_left c.turns.rest) (symbols_left c.tail.result) (symbols_left c.in_ok-right.behind) c.in-Some.joiner (row 16 c.args.level tighter (symbols_left c.args.tokens)) c.turns.invariant c.if-more-eq0.false (sym c.joiner_at.ensures ∙ c.in-Some.is) c.tail.ensures.symbols c.in_ok-right.ensures c.in_ok-e.ensures
+    row_next c.turns.more c.args.level tighter (expression_of c.turns.e) (expression_of c.in_ok-right.right) (expression_of c.in_ok-e.e) (symbols_left c.turns.rest) (symbols_left c.tail.result) (symbols_left c.in_ok-right.behind) c.in-Some.joiner (row_behind 16 c.args.level tighter (expression_of c.args.left) (symbols_left c.args.tokens)) c.turns.invariant c.if-more-eq0.false (sym c.joiner_at.ensures ∙ c.in-Some.is) c.tail.ensures.symbols c.in_ok-right.ensures c.in_ok-e.ensures

@@ -1,57 +1,65 @@
 use Rattle.std.proofs.Common.{◌≡◌, ◌-◌, ◌+◌, ◌*◌, suc, length}
+use Rattle.std.specs.Prelude.{Ok}
 use Rattle.kern_expressions.specs.Given.{symbols_left}
-use Rattle.kern_grammar.specs.Reading.{items, level_reader, row, row_behind, inside_of}
+use Rattle.kern_grammar.specs.Reading.{items, level_reader, row_behind, inside_of}
 use Rattle.kern_syntax.specs.TreeOf.{expression_of}
 use Rattle.kern_expressions.proofs.ArgumentLists.{ArgumentsSoFar}
+use Rattle.kern_expressions.proofs.Passing.{Reaches}
 use Rattle.kern_expressions.proofs.+levels.Given as goal
 
 abbrev pub decreases-atom::value_at : goal.decreases-atom::value_at
-decreases-atom::value_at l = 32 * l.room
+decreases-atom::value_at l = 64 * l.room
 
 abbrev pub decreases-atom::argument_at : goal.decreases-atom::argument_at
-decreases-atom::argument_at l = 32 * l.room + 1
+decreases-atom::argument_at l = 64 * l.room + 1
 
 abbrev pub decreases-atom::items_at : goal.decreases-atom::items_at
-decreases-atom::items_at l = 32 * l.room + 2
+decreases-atom::items_at l = 64 * l.room + 2
 
 abbrev pub decreases-atom::arguments_at : goal.decreases-atom::arguments_at
-decreases-atom::arguments_at l = 32 * l.room + 3
+decreases-atom::arguments_at l = 64 * l.room + 3
 
 abbrev pub decreases-atom::element_at : goal.decreases-atom::element_at
-decreases-atom::element_at l = 32 * l.room
+decreases-atom::element_at l = 64 * l.room
 
 abbrev pub decreases-atom::group_at : goal.decreases-atom::group_at
-decreases-atom::group_at l = 32 * l.room
+decreases-atom::group_at l = 64 * l.room
 
 abbrev pub decreases-atom::called_method_at : goal.decreases-atom::called_method_at
-decreases-atom::called_method_at l = 32 * l.room + 4
+decreases-atom::called_method_at l = 64 * l.room + 4
 
 abbrev pub decreases-atom::method_at : goal.decreases-atom::method_at
-decreases-atom::method_at l = 32 * l.room + 5
+decreases-atom::method_at l = 64 * l.room + 5
 
 abbrev pub decreases-atom::named_at : goal.decreases-atom::named_at
-decreases-atom::named_at l = 32 * l.room + 6
+decreases-atom::named_at l = 64 * l.room + 6
 
 abbrev pub decreases-atom::bare_atom_at : goal.decreases-atom::bare_atom_at
-decreases-atom::bare_atom_at l = 32 * l.room + 7
+decreases-atom::bare_atom_at l = 64 * l.room + 7
 
 abbrev pub decreases-atom::atom_at : goal.decreases-atom::atom_at
-decreases-atom::atom_at l = 32 * l.room + 8
+decreases-atom::atom_at l = 64 * l.room + 8
 
 abbrev pub decreases-expression::level_at : goal.decreases-expression::level_at
-decreases-expression::level_at l = 32 * l.room + 2 * l.level + 9
+decreases-expression::level_at l = 64 * l.room + 4 * l.level + 12
+
+abbrev pub decreases-expression::front_at : goal.decreases-expression::front_at
+decreases-expression::front_at l = 64 * l.room + 4 * l.level + 11
+
+abbrev pub decreases-expression::operators_at : goal.decreases-expression::operators_at
+decreases-expression::operators_at l = 64 * l.room + 4 * l.level + 11
 
 abbrev pub decreases-expression::row_at : goal.decreases-expression::row_at
-decreases-expression::row_at l = 32 * l.room + 2 * l.level + 8
+decreases-expression::row_at l = 64 * l.room + 4 * l.level + 10
 
 abbrev pub decreases-expression::prefixed_at : goal.decreases-expression::prefixed_at
-decreases-expression::prefixed_at l = 32 * l.room + 10
+decreases-expression::prefixed_at l = 64 * l.room + 10
 
 abbrev pub decreases-expression::compared_at : goal.decreases-expression::compared_at
-decreases-expression::compared_at l = 32 * l.room + 24
+decreases-expression::compared_at l = 64 * l.room + 42
 
 abbrev pub decreases-expression::negation_at : goal.decreases-expression::negation_at
-decreases-expression::negation_at l = 32 * l.room + 26
+decreases-expression::negation_at l = 64 * l.room + 46
 
 abbrev pub invariant-atom::items_at-items : goal.invariant-atom::items_at-items
 invariant-atom::items_at-items l =
@@ -60,10 +68,19 @@ invariant-atom::items_at-items l =
 abbrev pub decreases-atom::items_at-items : goal.decreases-atom::items_at-items
 decreases-atom::items_at-items l = length (symbols_left l.rest)
 
+abbrev pub invariant-expression::level_at-levels : goal.invariant-expression::level_at-levels
+invariant-expression::level_at-levels l = record {
+  reaches : Reaches l.level l.reached (symbols_left l.tokens);
+  same : level_reader (inside_of l.room) l.reached (symbols_left l.tokens) ≡ Ok (expression_of l.e, symbols_left l.rest);
+}
+
+abbrev pub decreases-expression::level_at-levels : goal.decreases-expression::level_at-levels
+decreases-expression::level_at-levels l = l.level - l.reached
+
 abbrev pub invariant-expression::row_at-turns : goal.invariant-expression::row_at-turns
 invariant-expression::row_at-turns l =
     row_behind l.more l.level (level_reader (inside_of l.room) (l.level - 1)) (expression_of l.e) (symbols_left l.rest)
-    ≡ row 16 l.level (level_reader (inside_of l.room) (l.level - 1)) (symbols_left l.tokens)
+    ≡ row_behind 16 l.level (level_reader (inside_of l.room) (l.level - 1)) (expression_of l.fn.left) (symbols_left l.tokens)
 
 abbrev pub decreases-expression::row_at-turns : goal.decreases-expression::row_at-turns
 decreases-expression::row_at-turns l = l.more
