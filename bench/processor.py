@@ -1,10 +1,11 @@
 #!/usr/bin/env python3
 """Instructions per second of the core's processor in a loop of arithmetic, beside python3 and C at the same work in one run.
 
-The loop takes 1,000,000 units, one in each turn, in which a value is multiplied, added to and wrapped to 32 bits. Python
-runs it twice: as a loop of its own, and as the processor does, instruction by instruction. C is compiled without
-optimisation and with -O2. All must come to the same value. Times are processor times, each the best of some runs.
-Needs gcc, and crates/cpu_bench built (rt run in its folder).
+The loop takes 1,000,000 units, one in each turn, in which a value is multiplied, added to and wrapped to 32 bits. The
+processor runs it twice: as instructions written by hand, and as a kernel's text that artiq_sim compiles. Python runs it
+twice: as a loop of its own, and as the processor does, instruction by instruction. C is compiled without optimisation and
+with -O2. All must come to the same value. Times are processor times, each the best of some runs, less that of a single turn
+where a program is started. Needs gcc, and crates/cpu_bench built (rt run in its folder).
 """
 
 import os
@@ -13,6 +14,8 @@ import subprocess
 import sys
 import tempfile
 import time
+
+from timing import PROGRAM as SIMULATOR, SIM
 
 ROOT = os.path.dirname(os.path.dirname(os.path.abspath(__file__)))
 PROGRAM = os.path.join(ROOT, "crates", "cpu_bench", "out", "cpu_bench")
@@ -45,6 +48,16 @@ LOOP = [
     ("At", None),
     ("Return", None),
 ]
+
+# The same loop as a kernel's text.
+TEXT = """def main():
+    value = 1
+    turn = 0
+    while turn < {turns}:
+        value = value * 1103515245 + 12345
+        turn += 1
+    at_mu(value)
+"""
 
 
 def wrapped(value, bits):
@@ -118,12 +131,12 @@ def children_time():
     return spent.ru_utime + spent.ru_stime
 
 
-def run_time(argv):
+def run_time(argv, source=b""):
     """The best processor time of some runs in seconds, and what they print."""
     best = float("inf")
     for _ in range(ROUNDS):
         start = children_time()
-        run = subprocess.run(argv, stdout=subprocess.PIPE, check=True)
+        run = subprocess.run(argv, input=source, stdout=subprocess.PIPE, check=True)
         best = min(best, children_time() - start)
     return best, run.stdout.decode("ascii")
 
@@ -136,6 +149,22 @@ def program_time(value, count, units):
     if text != wanted:
         sys.exit(f"{PROGRAM}: {text!r} in place of {wanted!r}")
     return spent - start
+
+
+def kernel_time(value):
+    """The time of the loop as a kernel, and its instructions. Ends where it comes to another value."""
+    with open(os.path.join(ROOT, "examples", "pair_of_pulses.py"), "rb") as text:
+        subprocess.run(SIM, stdin=text, stdout=subprocess.DEVNULL, check=True)
+    times = []
+    for turns in (1, TURNS):
+        text = TEXT.format(turns=turns).encode()
+        image = subprocess.run([SIMULATOR, "compile"], input=text, stdout=subprocess.PIPE, check=True).stdout
+        spent, report = run_time([SIMULATOR, "exec"], image)
+        times.append(spent)
+    lines = dict(line.split(" ", 1) for line in report.splitlines())
+    if int(lines["cursor"]) != value:
+        sys.exit(f"{SIMULATOR}: {report!r} in place of {value}")
+    return times[1] - times[0], int(lines["code"].split()[1])
 
 
 def compiled_time(level, value):
@@ -158,15 +187,16 @@ def main():
     if found != value:
         sys.exit(f"python3: {found} in place of {value}")
     times = [
-        ("the processor", program_time(value, count, units)),
-        ("python3, instruction by instruction", slow),
-        ("python3, its own loop", own),
-        ("C -O0", compiled_time("-O0", value)),
-        ("C -O2", compiled_time("-O2", value)),
+        ("the processor", program_time(value, count, units), count),
+        ("the processor, compiled from a text", *kernel_time(value)),
+        ("python3, instruction by instruction", slow, count),
+        ("python3, its own loop", own, count),
+        ("C -O0", compiled_time("-O0", value), count),
+        ("C -O2", compiled_time("-O2", value), count),
     ]
-    print(f"{TURNS} turns, {count} instructions, value {value}")
+    print(f"{TURNS} turns, {count} instructions, {times[1][2]} where they are compiled, value {value}")
     ours = times[0][1]
-    for name, spent in times:
+    for name, spent, count in times:
         print(f"{name:36} {spent * 1000:8.1f} ms {count / spent / 1e6:10.1f} million instructions/s {spent / ours:8.2f} of the processor's time")
 
 

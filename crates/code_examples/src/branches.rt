@@ -180,6 +180,27 @@ def main():
         "n = 40, n = 45, n = 216, n = 89, n = 192, n = 211, n = 187, n = 187, \
          Returned, cursor 0, units 84",
     ),
+    // Conditions whose opposite is asked, alone and with other branches behind them.
+    (
+        r#"
+def main():
+    n = 0
+    while not n == 4:
+        if n > 2:
+            set_dataset("a", n)
+        elif not n >= 1:
+            set_dataset("b", n)
+        elif n >= 2:
+            set_dataset("c", n)
+        else:
+            set_dataset("d", -5)
+        if not n > 1:
+            ttl0.on()
+        n += 1
+"#,
+        "b = 0, out 0 0 1 at 0, d = -5, out 0 0 1 at 0, c = 2, a = 3, \
+         Returned, cursor 0, units 90",
+    ),
 ];
 
 #[test]

@@ -15,6 +15,7 @@ use Rattle.core_isa.specs.declared.code.Code.{Code}
 use Rattle.core_isa.specs.declared.instr.Instr.TheVariants as I
 use Rattle.core_isa.specs.Machine.{Next, goes, raise, code_of}
 use Rattle.core_isa.specs.Runs.{counted}
+use Rattle.code_forms.specs.Conditions.{test_instrs, test_size}
 use Rattle.code_forms.specs.StatementCode.{code_of_name}
 use Rattle.code_follows.specs.Stands.{Around, Local, holding, Setting, machine_at, Fits64, Comes, ComesToRaise, EndsWith}
 use Rattle.code_follows.specs.Parts.{Follows, Stand}
@@ -25,6 +26,7 @@ use Rattle.code_follows.proofs.Raising.{code_back}
 use Rattle.code_follows.proofs.Instructions.{follows_one, follows_quiet, follows_const, follows_two, follows_pop, number_of_fits}
 use Rattle.code_follows.proofs.Flow.{follows_test, follows_before, follows_give}
 use Rattle.code_follows.proofs.ForLoops.{true_number}
+use Rattle.code_follows.proofs.Tests.{holds, follows_branching}
 
 pub small_fits : (n : ℕ) → n ≤ 6 → Fits64 (pos n)
 small_fits n less = grind (arith, less)
@@ -160,15 +162,15 @@ module _ (given : List Reply) (code : Code) where
       let st2 = st1.3 in
       follows_bind given code fl (λ a. follows_test given code (holding []) a (λ b. unless_decided b (pos 1) right) (at_test.0, at_test.1, at_test.2, tt) (follows_exit (follows_const given code [] [] (pos 1) (small_fits 1 (omega arith)) (st1.0, st1.1, st1.2, tt)) (st2.0, st2.1, st2.2, tt)) (follows_if given code (λ p. p.0) fr))
 
-  -- a branch: its condition, a jump to the other branches where it is 0, its body, and a jump past them
-  pub follows_branch : {premise : Type 0} {most : ℕ} {setting : Setting} {first test mid past : ℕ} {condition : Action ℤ} {body rest : Action ⊤} → Stand code.lines test (I.JumpZero (mid + 1) ∷ []) → Stand code.lines mid (I.Jump past ∷ []) → Follows given code premise most setting first test (holding []) Fits64 (λ v. holding (v ∷ [])) condition → Follows given code premise most setting (test + 1) mid (holding []) (λ v. ⊤) (λ v. holding []) body → Follows given code premise most setting (mid + 1) past (holding []) (λ v. ⊤) (λ v. holding []) rest → Follows given code premise most setting first past (holding []) (λ v. ⊤) (λ v. holding []) (condition >>= λ a. either (is_true a) body rest)
-  follows_branch {body = body} {rest = rest} at_test at_mid fc fb fr =
-      follows_bind given code fc (λ a. follows_test given code (holding []) a (λ b. either b body rest) at_test (follows_if given code (λ p. p.0) (follows_exit fb at_mid)) (follows_if given code (λ p. p.0) fr))
+  -- a branch: what is asked for its condition, a test that goes to the other branches, its body, and a jump past them
+  pub follows_branch : {premise : Type 0} {most : ℕ} {setting : Setting} {first test mid past : ℕ} {answer : Action ℤ} {body rest : Action ⊤} (turned : Bool) → Stand code.lines test (test_instrs turned test (mid + 1)) → Stand code.lines mid (I.Jump past ∷ []) → Follows given code premise most setting first test (holding []) Fits64 (λ v. holding (v ∷ [])) answer → Follows given code premise most setting (test + test_size turned) mid (holding []) (λ v. ⊤) (λ v. holding []) body → Follows given code premise most setting (mid + 1) past (holding []) (λ v. ⊤) (λ v. holding []) rest → Follows given code premise most setting first past (holding []) (λ v. ⊤) (λ v. holding []) (answer >>= λ a. either (holds turned a) body rest)
+  follows_branch {body = body} {rest = rest} turned at_test at_mid fc fb fr =
+      follows_bind given code fc (λ a. follows_branching given code turned a (λ b. either b body rest) at_test (follows_if given code (λ p. p.0) (follows_exit fb at_mid)) (follows_if given code (λ p. p.0) fr))
 
   -- the last branch, where there is no `else`
-  pub follows_last_branch : {premise : Type 0} {most : ℕ} {setting : Setting} {first test past : ℕ} {condition : Action ℤ} {body : Action ⊤} → Stand code.lines test (I.JumpZero past ∷ []) → Follows given code premise most setting first test (holding []) Fits64 (λ v. holding (v ∷ [])) condition → Follows given code premise most setting (test + 1) past (holding []) (λ v. ⊤) (λ v. holding []) body → Follows given code premise most setting first past (holding []) (λ v. ⊤) (λ v. holding []) (condition >>= λ a. either (is_true a) body skip)
-  follows_last_branch {body = body} at_test fc fb =
-      follows_bind given code fc (λ a. follows_test given code (holding []) a (λ b. either b body skip) at_test (follows_if given code (λ p. p.0) fb) (follows_give given code {results = λ v. holding []} tt (λ p. tt)))
+  pub follows_last_branch : {premise : Type 0} {most : ℕ} {setting : Setting} {first test past : ℕ} {answer : Action ℤ} {body : Action ⊤} (turned : Bool) → Stand code.lines test (test_instrs turned test past) → Follows given code premise most setting first test (holding []) Fits64 (λ v. holding (v ∷ [])) answer → Follows given code premise most setting (test + test_size turned) past (holding []) (λ v. ⊤) (λ v. holding []) body → Follows given code premise most setting first past (holding []) (λ v. ⊤) (λ v. holding []) (answer >>= λ a. either (holds turned a) body skip)
+  follows_last_branch {body = body} turned at_test fc fb =
+      follows_bind given code fc (λ a. follows_branching given code turned a (λ b. either b body skip) at_test (follows_if given code (λ p. p.0) fb) (follows_give given code {results = λ v. holding []} tt (λ p. tt)))
 
   -- a handler: the code compared, a jump to the others where it isn't its own, the body, and a jump past them
   pub follows_handler : {premise : Type 0} {most : ℕ} {setting : Setting} {first mid past : ℕ} (name : Bytes) (x : Exc) (body rest : Action ⊤) → Stand code.lines first (I.Dup ∷ I.Const (code_of_name name) ∷ I.Eq ∷ I.JumpZero (mid + 1) ∷ I.Pop ∷ []) → Fits64 (code_of_name name) → Stand code.lines mid (I.Jump past ∷ []) → Follows given code premise most setting (first + 1 + 1 + 1 + 1 + 1) mid (holding []) (λ v. ⊤) (λ v. holding []) body → Follows given code premise most setting (mid + 1) past (holding (code_of x ∷ [])) (λ v. ⊤) (λ v. holding []) rest → Follows given code premise most setting first past (holding (code_of x ∷ [])) (λ v. ⊤) (λ v. holding []) (if bytes_eq name (name_of_exception x) then body else rest)

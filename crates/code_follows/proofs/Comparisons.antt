@@ -27,13 +27,13 @@ use Rattle.code_follows.proofs.Flow.{follows_before}
 use Rattle.code_follows.proofs.Instructions.{number_of_fits, follows_quiet, follows_const, follows_two}
 use Rattle.code_follows.proofs.Operators.{narrow, follows_narrow}
 
-not_less : (a b : ℤ) → not (int_lt a b) ≡ int_le b a
+pub not_less : (a b : ℤ) → not (int_lt a b) ≡ int_le b a
 not_less (pos a) (pos b) = grind arith
 not_less (pos a) (negsuc b) = grind arith
 not_less (negsuc a) (pos b) = grind arith
 not_less (negsuc a) (negsuc b) = grind arith
 
-not_less_equal : (a b : ℤ) → not (int_le a b) ≡ int_lt b a
+pub not_less_equal : (a b : ℤ) → not (int_le a b) ≡ int_lt b a
 not_less_equal (pos a) (pos b) = grind arith
 not_less_equal (pos a) (negsuc b) = grind arith
 not_less_equal (negsuc a) (pos b) = grind arith
@@ -44,7 +44,7 @@ is_zero (pos zero) = refl
 is_zero (pos (suc n)) = let e : int_eq (pos (suc n)) (pos 0) ≡ false = grind arith in e
 is_zero (negsuc n) = refl
 
-number_is : (b : Bool) → is_true (number_of b) ≡ b
+pub number_is : (b : Bool) → is_true (number_of b) ≡ b
 number_is true = refl
 number_is false = refl
 

@@ -4,6 +4,7 @@ pub mod Calls
 pub mod Choices
 pub mod Comparisons
 pub mod Compose
+pub mod Conditions
 pub mod Counting
 pub mod Datasets
 pub mod Elements
@@ -26,6 +27,7 @@ pub mod Records
 pub mod Requests
 pub mod Returning
 pub mod Slots
+pub mod Tests
 pub mod TimedCalls
 pub mod Tries
 pub mod Variables

@@ -1,6 +1,6 @@
 -- A turn of a loop, and `while`.
 use Rattle.std.proofs.Common.{◌≡◌, ℕ, zero, suc, ◌+◌, ◌≤◌, List, [], ◌∷◌, ◌++◌, length, Some, None, refl, ap, subst, arith, length-append}
-use Rattle.std.specs.Prelude.{ℤ, ⊤}
+use Rattle.std.specs.Prelude.{Bool, ℤ, ⊤}
 use Rattle.std.proofs.lemmas.List.{take_all}
 use Rattle.rtio_types.specs.declared.request.Reply.{Reply}
 use Rattle.timeline_sem.specs.Actions.{State, break, continue, return, raised, budget, unanswered, Completion, normal, early, Action, stop}
@@ -10,12 +10,14 @@ use Rattle.core_isa.specs.declared.code.Code.{Code}
 use Rattle.core_isa.specs.declared.instr.Instr.TheVariants as I
 use Rattle.core_isa.specs.Machine.{Next, goes}
 use Rattle.core_isa.specs.WellAsked.{RepliesFit}
+use Rattle.code_forms.specs.Conditions.{loop_instrs, loop_size}
 use Rattle.code_follows.specs.Stands.{Around, Local, holding, Loop, Setting, Suits, machine_at, around_loop, Fits64, Comes, EndsWith}
 use Rattle.code_follows.specs.Parts.{Moved, Follows, Stand, beneath, within, deeper, alone}
 use Rattle.code_follows.proofs.Leads.{with_on}
-use Rattle.code_follows.proofs.Compose.{moved_then, fits_before, follows_bind, follows_if}
+use Rattle.code_follows.proofs.Compose.{moved_then, fits_before, follows_bind, follows_if, follows_same}
 use Rattle.code_follows.proofs.Beneath.{machine_same, suits_within, slots_within, comes_beneath, early_beneath, follows_anywhere}
-use Rattle.code_follows.proofs.Flow.{follows_jump, follows_test, follows_skip, follows_no_units, follows_spend, comes_forget}
+use Rattle.code_follows.proofs.Flow.{follows_skip, follows_no_units, follows_spend, comes_forget}
+use Rattle.code_follows.proofs.Tests.{Asks, follows_looping}
 
 -- the loop as its body sees it, with some temporary slots of its own
 abbrev pub inner : Setting → (own : List ℤ) → (again past : ℕ) → Loop
@@ -105,20 +107,18 @@ module _ (given : List Reply) (code : Code) where
   follows_loop_turn less setting own first again past body next stands fb fn =
       follows_spend given code less stands (follows_after_turn setting own (first + 1) again past body next fb fn)
 
-  -- a `while`: its code is a Turn and the body; the condition, a jump past the loop where it is 0, and a jump back to the Turn
-  module _ {premise : Type 0} (setting : Setting) (top cond late past : ℕ) (condition : Action ℤ) (body : Action ⊤) (at_top : Stand code.lines top (I.Turn ∷ [])) (at_late : Stand code.lines late (I.JumpZero past ∷ I.Jump top ∷ [])) (follows_condition : (n : ℕ) → Follows given code premise n (alone setting) cond late (holding []) Fits64 (λ v. holding (v ∷ [])) condition) (follows_body : (n : ℕ) → Follows given code premise n (body_setting setting [] cond past) (top + 1) cond (holding []) (λ v. ⊤) (λ v. holding []) body) where
+  -- a `while`: its code is a Turn and the body; what is asked for the condition, and a test that goes back to the Turn or past the
+  -- loop
+  module _ {premise : Type 0} (setting : Setting) (top cond late past : ℕ) (turned : Bool) (asked condition : Action ℤ) (body : Action ⊤) (asks : Asks turned asked condition) (at_top : Stand code.lines top (I.Turn ∷ [])) (at_late : Stand code.lines late (loop_instrs turned top past)) (ends : past ≡ late + loop_size turned) (follows_asked : (n : ℕ) → Follows given code premise n (alone setting) cond late (holding []) Fits64 (λ v. holding (v ∷ [])) asked) (follows_body : (n : ℕ) → Follows given code premise n (body_setting setting [] cond past) (top + 1) cond (holding []) (λ v. ⊤) (λ v. holding []) body) where
     abbrev pub Turns : ℕ → Type 0
     Turns n =
         Follows given code premise n setting cond past (holding []) (λ v. ⊤) (λ v. holding []) (while_turns n condition body)
 
-    jump_zero : Stand code.lines late (I.JumpZero past ∷ [])
-    jump_zero = (at_late.0, at_late.1, at_late.2, tt)
-
     pub follows_turns : (n : ℕ) → Turns n
     follows_turns zero =
-        follows_bind given code (follows_anywhere given code (follows_condition zero)) (λ v. follows_test given code (holding []) v (λ b. when b (stop budget)) jump_zero (follows_jump given code at_late.3 (follows_no_units given code at_top)) (follows_skip given code))
+        follows_same given code (asks (λ b. when b (stop budget))) (follows_bind given code (follows_anywhere given code (follows_asked zero)) (λ v. follows_looping given code turned v (λ b. when b (stop budget)) at_late ends (follows_no_units given code at_top) (follows_skip given code)))
     follows_turns (suc n) =
-        follows_bind given code (follows_anywhere given code (follows_condition (suc n))) (λ v. follows_test given code (holding []) v (λ b. when b (turn body (while_turns n condition body))) jump_zero (follows_jump given code at_late.3 (follows_if given code (λ p. p.0) (follows_loop_turn (omega arith) setting [] top cond past body (while_turns n condition body) at_top (follows_body n) (follows_turns n)))) (follows_skip given code))
+        follows_same given code (asks (λ b. when b (turn body (while_turns n condition body)))) (follows_bind given code (follows_anywhere given code (follows_asked (suc n))) (λ v. follows_looping given code turned v (λ b. when b (turn body (while_turns n condition body))) at_late ends (follows_if given code (λ p. p.0) (follows_loop_turn (omega arith) setting [] top cond past body (while_turns n condition body) at_top (follows_body n) (follows_turns n))) (follows_skip given code)))
 
     pub follows_while : (most : ℕ) → Follows given code premise most setting cond past (holding []) (λ v. ⊤) (λ v. holding []) (while_loop condition body)
     follows_while most =

@@ -11,11 +11,11 @@ use Rattle.core_isa.specs.declared.code.CodeLine.{CodeLine}
 use Rattle.core_isa.specs.declared.code.Mark.{Mark}
 use Rattle.core_isa.specs.declared.instr.Instr.{Instr}
 use Rattle.core_isa.specs.declared.instr.Instr.TheVariants as I
-use Rattle.code_forms.specs.ExpressionCode.{expression_code, arguments_code, call_lines, method_lines, filled, numbers_in}
+use Rattle.code_forms.specs.ExpressionCode.{expression_code, arguments_code, unary_lines, call_lines, method_lines, filled, numbers_in}
 use Rattle.code_forms.specs.Lines.{line, raised, straight, mark_after}
-use Rattle.code_forms.specs.Operations.{operator_instrs, unary_instrs, comparison_instrs, not_instrs, call_instrs, call_has_value, takes_numbers, array_argument, method_instrs, method_has_value}
+use Rattle.code_forms.specs.Operations.{operator_instrs, unary_instrs, literal, negated, comparison_instrs, not_instrs, call_instrs, call_has_value, takes_numbers, array_argument, method_instrs, method_has_value}
 use Rattle.code_forms.specs.Setting.{Setting, slot_of, length_of}
-use Rattle.code_forms.specs.Sizes.{expression_size, arguments_size, unless}
+use Rattle.code_forms.specs.Sizes.{expression_size, arguments_size, unary_size, unless}
 
 pub length-straight : (mark : Mark) (is : List Instr) → length (straight mark is) ≡ length is
 length-straight mark [] = refl
@@ -52,6 +52,12 @@ call_length mark above numbers is n true e =
     omega (arith, length-append numbers (straight above is), length-straight above is, e)
 call_length mark above numbers is n false e = omega (arith, length-straight mark is)
 
+-- one operand and what is done with it, or a number alone
+unary-length : (mark : Mark) (o : Option ℕ) (operand : List CodeLine) (is : List Instr) (n : ℕ) → length operand ≡ n → length (unary_lines mark o operand is) ≡ unary_size o n (length is)
+unary-length mark (Some m) operand is n e = refl
+unary-length mark None operand is n e =
+    omega (arith, length-append operand (straight (raised 1 mark) is), length-straight (raised 1 mark) is, e)
+
 -- two operands and what is done with them
 two-operands : (a b : List CodeLine) (mark : Mark) (is : List Instr) (n m : ℕ) → length a ≡ n → length b ≡ m → length (a ++ b ++ straight mark is) ≡ n + (m + length is)
 two-operands a b mark is n m ea eb =
@@ -68,8 +74,7 @@ module _ (setting : Setting) (free : ℕ) where
         omega (arith, length-append (expression_code setting free mark place i) (line (raised 1 mark) (I.LoadAt (slot_of setting x) (length_of setting x)) ∷ []), length-expression mark place i)
     length-expression mark place (group e) = length-expression mark place e
     length-expression mark place (unary op e) =
-        let tail = unary_instrs op (type_of setting.scope e) in
-        omega (arith, length-append (expression_code setting free mark place e) (straight (raised 1 mark) tail), length-straight (raised 1 mark) tail, length-expression mark place e)
+        unary-length mark (negated op (literal e)) (expression_code setting free mark place e) (unary_instrs op (type_of setting.scope e)) (expression_size setting e) (length-expression mark place e)
     length-expression mark place (binary op a b) =
         two-operands (expression_code setting free mark place a) (expression_code setting free (raised 1 mark) (place + expression_size setting a) b) (raised 2 mark) (operator_instrs op (type_of setting.scope (binary op a b))) (expression_size setting a) (expression_size setting b) (length-expression mark place a) (length-expression (raised 1 mark) (place + expression_size setting a) b)
     length-expression mark place (compare op a b) =

@@ -10,8 +10,10 @@ use Rattle.timeline_sem.specs.Expressions.{text_in}
 use Rattle.timeline_sem.specs.Statements.{operator_of}
 use Rattle.core_isa.specs.declared.code.CodeLine.{CodeLine}
 use Rattle.core_isa.specs.declared.code.Mark.{Mark}
+use Rattle.core_isa.specs.declared.instr.Instr.{Instr}
 use Rattle.core_isa.specs.declared.instr.Instr.TheVariants as I
 use Rattle.core_isa.specs.Marks.{first_mark}
+use Rattle.code_forms.specs.Conditions.{is_turned, asked, test_instrs, test_size, loop_instrs, loop_size}
 use Rattle.code_forms.specs.ExpressionCode.{expression_code, arguments_code, call_code, method_code, effect_code, dropped, numbers_in}
 use Rattle.code_forms.specs.Laws.{HasItsSize, FunctionsHaveTheirSize}
 use Rattle.code_forms.specs.Lines.{line, raised, with_handler, with_recording, straight, end_tries}
@@ -66,9 +68,18 @@ pub length-moved : (n from to : ℕ) → length (moved n from to) ≡ 2 * n
 length-moved zero from to = refl
 length-moved (suc n) from to = omega (arith, length-moved n (from + 1) (to + 1))
 
-length-branch : (mark : Mark) (else_at : ℕ) (c b l r : List CodeLine) {nc nb nl nr : ℕ} → length c ≡ nc → length b ≡ nb → length l ≡ nl → length r ≡ nr → length (branch_lines mark else_at c b l r) ≡ nc + (1 + (nb + (nl + nr)))
-length-branch mark else_at c b l r ec eb el er =
-    four c (line (raised 1 mark) (I.JumpZero else_at) ∷ b) l r ec (ap suc eb) el er ∙ omega arith
+-- the test of a branch, and of a loop
+pub length-test : (mark : Mark) (turned : Bool) (place elsewhere : ℕ) → length (straight mark (test_instrs turned place elsewhere)) ≡ test_size turned
+length-test mark false place elsewhere = refl
+length-test mark true place elsewhere = refl
+
+pub length-loop : (mark : Mark) (turned : Bool) (turn past : ℕ) → length (straight mark (loop_instrs turned turn past)) ≡ loop_size turned
+length-loop mark false turn past = refl
+length-loop mark true turn past = refl
+
+length-branch : (mark : Mark) (test : List Instr) (c b l r : List CodeLine) {nc nt nb nl nr : ℕ} → length c ≡ nc → length (straight (raised 1 mark) test) ≡ nt → length b ≡ nb → length l ≡ nl → length r ≡ nr → length (branch_lines mark test c b l r) ≡ nc + (nt + (nb + (nl + nr)))
+length-branch mark test c b l r ec et eb el er =
+    five c (straight (raised 1 mark) test) b l r ec et eb el er
 
 module _ (setting : Setting) where
   pub length-exit : (mark : Mark) (rest : Otherwise) (end : ℕ) → length (exit mark rest end) ≡ exit_size setting rest
@@ -157,14 +168,14 @@ module _ (setting : Setting) where
     length-statement inside place (assign_list x es) =
         two _ _ (length-stored inside place es) (length-straight inside.mark (moved (length es) inside.free (slot_of setting x)) ∙ length-moved (length es) inside.free (slot_of setting x))
     length-statement inside place (if_then c b rest) =
-        length-branch inside.mark _ _ _ _ _ (length-value inside place c) (length-block inside (then_place setting place c) b) (length-exit inside.mark rest (end_place setting inside place c b rest)) (length-otherwise inside (else_place setting inside place c b rest) rest)
+        length-branch inside.mark _ _ _ _ _ (length-value inside place (asked c)) (length-test (raised 1 inside.mark) (is_turned c) _ _) (length-block inside (then_place setting place c) b) (length-exit inside.mark rest (end_place setting inside place c b rest)) (length-otherwise inside (else_place setting inside place c b rest) rest)
     length-statement inside place (while_do c b) =
         let again = place + 2 + block_size setting inside.mark.tries inside.mark.tries b in
-        let past = again + expression_size setting c + 2 in
+        let past = again + expression_size setting (asked c) + loop_size (is_turned c) in
         let body = block_code setting (in_loop again past inside) (place + 2) b in
-        let condition = value_code setting inside again c in
-        let ends = straight (raised 1 inside.mark) (I.JumpZero past ∷ I.Jump (place + 1) ∷ []) in
-        three (line inside.mark (I.Jump again) ∷ line inside.mark I.Turn ∷ body) condition ends (ap (λ k. suc (suc k)) (length-block (in_loop again past inside) (place + 2) b)) (length-value inside again c) refl ∙ omega arith
+        let condition = value_code setting inside again (asked c) in
+        let ends = straight (raised 1 inside.mark) (loop_instrs (is_turned c) (place + 1) past) in
+        three (line inside.mark (I.Jump again) ∷ line inside.mark I.Turn ∷ body) condition ends (ap (λ k. suc (suc k)) (length-block (in_loop again past inside) (place + 2) b)) (length-value inside again (asked c)) (length-loop (raised 1 inside.mark) (is_turned c) (place + 1) past) ∙ omega arith
     length-statement inside place (for_range x from to b) =
         let first = turns_place setting place from to in
         let again = first + 10 + block_size setting inside.mark.tries inside.mark.tries b in
@@ -200,7 +211,7 @@ module _ (setting : Setting) where
     length-otherwise inside place no_else = refl
     length-otherwise inside place (else_do b) = length-block inside place b
     length-otherwise inside place (elif_then l c b rest) =
-        length-branch inside.mark _ _ _ _ _ (length-value inside place c) (length-block inside (then_place setting place c) b) (length-exit inside.mark rest (end_place setting inside place c b rest)) (length-otherwise inside (else_place setting inside place c b rest) rest)
+        length-branch inside.mark _ _ _ _ _ (length-value inside place (asked c)) (length-test (raised 1 inside.mark) (is_turned c) _ _) (length-block inside (then_place setting place c) b) (length-exit inside.mark rest (end_place setting inside place c b rest)) (length-otherwise inside (else_place setting inside place c b rest) rest)
 
     pub length-handlers : (inside : Inside) (place end : ℕ) (handlers : Handlers) → length (handlers_code setting inside place end handlers) ≡ handlers_size setting inside.mark.tries inside.loop.tries handlers
     length-handlers inside place end no_handler = refl

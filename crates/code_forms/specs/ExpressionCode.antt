@@ -1,14 +1,15 @@
 -- The code of expressions.
-use Rattle.std.specs.Prelude.{ℕ, ◌+◌, List, [], ◌∷◌, ◌++◌, pos, Bool, true, false, if◌then◌else◌}
+use Rattle.std.specs.Prelude.{ℕ, ◌+◌, List, [], ◌∷◌, ◌++◌, pos, neg_ℤ, Bool, true, false, if◌then◌else◌, Option, Some, None}
 use Rattle.kern_syntax.specs.Tree.{Bytes, Expression, integer, true_literal, false_literal, variable, element, group, unary, binary, compare, negation, conjunction, disjunction, call, method, Arguments, no_more, value_then, text_then}
 use Rattle.kern_calls.specs.Calls.{builtin_named, look_up, method_named}
 use Rattle.kern_calls.specs.Types.{type_of}
 use Rattle.timeline_sem.specs.Expressions.{text_in}
 use Rattle.core_isa.specs.declared.code.CodeLine.{CodeLine}
 use Rattle.core_isa.specs.declared.code.Mark.{Mark}
+use Rattle.core_isa.specs.declared.instr.Instr.{Instr}
 use Rattle.core_isa.specs.declared.instr.Instr.TheVariants as I
 use Rattle.code_forms.specs.Lines.{line, raised, straight}
-use Rattle.code_forms.specs.Operations.{operator_instrs, unary_instrs, comparison_instrs, not_instrs, load_instr, call_instrs, call_has_value, takes_numbers, array_argument, method_instrs, method_has_value}
+use Rattle.code_forms.specs.Operations.{operator_instrs, unary_instrs, literal, negated, comparison_instrs, not_instrs, load_instr, call_instrs, call_has_value, takes_numbers, array_argument, method_instrs, method_has_value}
 use Rattle.code_forms.specs.Setting.{Setting, slot_of, length_of}
 use Rattle.code_forms.specs.Sizes.{expression_size, arguments_size}
 
@@ -27,6 +28,11 @@ filled mark false = line mark (I.Const (pos 0)) ∷ []
 abbrev pub dropped : Mark → (has_value : Bool) → List CodeLine
 dropped mark true = line (raised 1 mark) I.Pop ∷ []
 dropped mark false = []
+
+-- `-` or `~`, given its operand's code: one number where it is `-` of an integer
+abbrev pub unary_lines : Mark → (negated : Option ℕ) → (operand : List CodeLine) → List Instr → List CodeLine
+unary_lines mark (Some n) operand instrs = line mark (I.Const (neg_ℤ (pos n))) ∷ []
+unary_lines mark None operand instrs = operand ++ straight (raised 1 mark) instrs
 
 -- a call, given the code of its arguments: it leaves a value if it has one
 abbrev pub call_lines : Setting → Mark → (name : Bytes) → Arguments → (numbers : List CodeLine) → List CodeLine
@@ -54,7 +60,11 @@ module _ (setting : Setting) (free : ℕ) where
         expression_code mark place i ++ line (raised 1 mark) (I.LoadAt (slot_of setting x) (length_of setting x)) ∷ []
     expression_code mark place (group e) = expression_code mark place e
     expression_code mark place (unary op e) =
-        expression_code mark place e ++ straight (raised 1 mark) (unary_instrs op (type_of setting.scope e))
+        unary_lines
+        mark
+        (negated op (literal e))
+        (expression_code mark place e)
+        (unary_instrs op (type_of setting.scope e))
     expression_code mark place (binary op a b) =
         expression_code mark place a
         ++ expression_code (raised 1 mark) (place + expression_size setting a) b

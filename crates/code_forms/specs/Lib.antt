@@ -1,3 +1,4 @@
+pub mod Conditions
 pub mod ExpressionCode
 pub mod Laws
 pub mod Lines

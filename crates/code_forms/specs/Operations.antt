@@ -6,7 +6,7 @@ use Rattle.kern_syntax.specs.declared.expression.Comparison.{Comparison}
 use Rattle.kern_syntax.specs.declared.expression.Comparison.TheVariants as C
 use Rattle.kern_syntax.specs.declared.expression.UnaryOperator.{UnaryOperator}
 use Rattle.kern_syntax.specs.declared.expression.UnaryOperator.TheVariants as U
-use Rattle.kern_syntax.specs.Tree.{Bytes, Arguments, no_more, value_then, text_then}
+use Rattle.kern_syntax.specs.Tree.{Bytes, Expression, integer, Arguments, no_more, value_then, text_then}
 use Rattle.kern_calls.specs.declared.types.ValueType.{ValueType}
 use Rattle.kern_calls.specs.declared.types.ValueType.TheVariants as V
 use Rattle.kern_calls.specs.declared.calls.Builtin.{Builtin}
@@ -46,6 +46,16 @@ operator_instrs op t = operator_instr op t ∷ wrapping t
 abbrev pub unary_instrs : UnaryOperator → ValueType → List Instr
 unary_instrs U.Negate t = I.Neg ∷ wrapping t
 unary_instrs U.Invert t = I.Inv ∷ wrapping t
+
+-- the number of an expression that is an integer
+abbrev pub literal : Expression → Option ℕ
+literal (integer n) = Some n
+literal e = None
+
+-- the number below 0 that `-` of an integer is: it has the integer's width, so nothing is left to do
+abbrev pub negated : UnaryOperator → (literal : Option ℕ) → Option ℕ
+negated U.Negate literal = literal
+negated U.Invert literal = None
 
 -- whether the operand is 0: `a → 1` or `0`
 abbrev pub not_instrs : List Instr

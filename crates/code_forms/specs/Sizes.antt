@@ -5,8 +5,9 @@ use Rattle.kern_calls.specs.Calls.{builtin_named, method_named}
 use Rattle.kern_calls.specs.Types.{type_of}
 use Rattle.timeline_sem.specs.Expressions.{text_in}
 use Rattle.timeline_sem.specs.Statements.{operator_of}
+use Rattle.code_forms.specs.Conditions.{is_turned, asked, test_size, loop_size}
 use Rattle.code_forms.specs.Setting.{Setting}
-use Rattle.code_forms.specs.Operations.{operator_instrs, unary_instrs, comparison_instrs, call_instrs, call_has_value, takes_numbers, array_argument, method_instrs, method_has_value}
+use Rattle.code_forms.specs.Operations.{operator_instrs, unary_instrs, literal, negated, comparison_instrs, call_instrs, call_has_value, takes_numbers, array_argument, method_instrs, method_has_value}
 
 -- an instruction more where there is no value
 abbrev pub unless : Bool → ℕ
@@ -17,6 +18,11 @@ unless false = 1
 abbrev pub when : Bool → ℕ
 when true = 1
 when false = 0
+
+-- of `-` and `~`, with so many for the operand and for what is done with it; one number where it is `-` of an integer
+abbrev pub unary_size : (negated : Option ℕ) → (operand own : ℕ) → ℕ
+unary_size (Some n) operand own = 1
+unary_size None operand own = operand + own
 
 -- of a call, which leaves a value if it has one, with so many for its arguments
 abbrev pub call_size_with : Setting → (name : Bytes) → Arguments → (numbers : ℕ) → ℕ
@@ -38,7 +44,8 @@ module _ (setting : Setting) where
     expression_size (variable x) = 1
     expression_size (element x i) = expression_size i + 1
     expression_size (group e) = expression_size e
-    expression_size (unary op e) = expression_size e + length (unary_instrs op (type_of setting.scope e))
+    expression_size (unary op e) =
+        unary_size (negated op (literal e)) (expression_size e) (length (unary_instrs op (type_of setting.scope e)))
     expression_size (binary op a b) =
         expression_size a
         + (expression_size b + length (operator_instrs op (type_of setting.scope (binary op a b))))
@@ -107,9 +114,10 @@ module _ (setting : Setting) where
     statement_size tries kept (assign_repeated x e n) = expression_size e + 1
     statement_size tries kept (assign_list x es) = stored_size es + 2 * length es
     statement_size tries kept (if_then c b rest) =
-        expression_size c
-        + (1 + (block_size tries kept b + (exit_size rest + otherwise_size tries kept rest)))
-    statement_size tries kept (while_do c b) = 2 + (block_size tries tries b + (expression_size c + 2))
+        expression_size (asked c)
+        + (test_size (is_turned c) + (block_size tries kept b + (exit_size rest + otherwise_size tries kept rest)))
+    statement_size tries kept (while_do c b) =
+        2 + (block_size tries tries b + (expression_size (asked c) + loop_size (is_turned c)))
     statement_size tries kept (for_range x from to b) =
         from_size from + (expression_size to + (10 + (block_size tries tries b + 4)))
     statement_size tries kept (parallel b) = 4 + (parallel_size tries kept b + 2)
@@ -134,8 +142,8 @@ module _ (setting : Setting) where
     otherwise_size tries kept no_else = 0
     otherwise_size tries kept (else_do b) = block_size tries kept b
     otherwise_size tries kept (elif_then line c b rest) =
-        expression_size c
-        + (1 + (block_size tries kept b + (exit_size rest + otherwise_size tries kept rest)))
+        expression_size (asked c)
+        + (test_size (is_turned c) + (block_size tries kept b + (exit_size rest + otherwise_size tries kept rest)))
 
     -- of handlers
     pub handlers_size : (tries kept : ℕ) → Handlers → ℕ

@@ -8,6 +8,7 @@ use Rattle.core_isa.specs.declared.code.CodeLine.{CodeLine}
 use Rattle.core_isa.specs.declared.code.Mark.{Mark}
 use Rattle.core_isa.specs.declared.instr.Instr.{Instr}
 use Rattle.core_isa.specs.declared.instr.Instr.TheVariants as I
+use Rattle.code_forms.specs.Conditions.{is_turned, asked, test_instrs, test_size, loop_instrs, loop_size}
 use Rattle.code_forms.specs.ExpressionCode.{expression_code, effect_code}
 use Rattle.code_forms.specs.Lines.{line, raised, with_handler, with_recording, straight, end_tries}
 use Rattle.code_forms.specs.Operations.{operator_instrs}
@@ -87,14 +88,17 @@ abbrev pub exit : Mark → Otherwise → (end : ℕ) → List CodeLine
 exit mark no_else end = []
 exit mark rest end = line mark (I.Jump end) ∷ []
 
--- a branch: the code of its condition, of its body, of the end of the body, and of the branches that follow
-abbrev pub branch_lines : Mark → (else_at : ℕ) → (condition body leave rest : List CodeLine) → List CodeLine
-branch_lines mark else_at condition body leave rest =
-    condition ++ line (raised 1 mark) (I.JumpZero else_at) ∷ body ++ leave ++ rest
+-- a branch: the code of its condition and the test, of its body, of the end of the body, and of the branches that follow
+abbrev pub branch_lines : Mark → (test : List Instr) → (condition body leave rest : List CodeLine) → List CodeLine
+branch_lines mark test condition body leave rest =
+    condition ++ straight (raised 1 mark) test ++ body ++ leave ++ rest
 
--- where the body of a branch begins, where the branches that follow begin, and where they end
+-- where a branch tests its condition, where its body begins, where the branches that follow begin, and where they end
+abbrev pub test_place : Setting → (place : ℕ) → Expression → ℕ
+test_place setting place c = place + expression_size setting (asked c)
+
 abbrev pub then_place : Setting → (place : ℕ) → Expression → ℕ
-then_place setting place c = place + expression_size setting c + 1
+then_place setting place c = test_place setting place c + test_size (is_turned c)
 
 abbrev pub else_place : Setting → Inside → (place : ℕ) → Expression → Block → Otherwise → ℕ
 else_place setting inside place c b rest =
@@ -196,8 +200,8 @@ module _ (setting : Setting) where
     statement_code inside place (if_then c b rest) =
         branch_lines
         inside.mark
-        (else_place setting inside place c b rest)
-        (value_code inside place c)
+        (test_instrs (is_turned c) (test_place setting place c) (else_place setting inside place c b rest))
+        (value_code inside place (asked c))
         (block_code inside (then_place setting place c) b)
         (exit inside.mark rest (end_place setting inside place c b rest))
         (otherwise_code inside (else_place setting inside place c b rest) rest)
@@ -207,16 +211,25 @@ module _ (setting : Setting) where
         ∷ block_code
         (in_loop
         (place + 2 + block_size setting inside.mark.tries inside.mark.tries b)
-        (place + 2 + block_size setting inside.mark.tries inside.mark.tries b + expression_size setting c + 2)
+        (place
+        + 2
+        + block_size setting inside.mark.tries inside.mark.tries b
+        + expression_size setting (asked c)
+        + loop_size (is_turned c))
         inside)
         (place + 2)
         b
-        ++ value_code inside (place + 2 + block_size setting inside.mark.tries inside.mark.tries b) c
+        ++ value_code inside (place + 2 + block_size setting inside.mark.tries inside.mark.tries b) (asked c)
         ++ straight
         (raised 1 inside.mark)
-        (I.JumpZero (place + 2 + block_size setting inside.mark.tries inside.mark.tries b + expression_size setting c + 2)
-        ∷ I.Jump (place + 1)
-        ∷ [])
+        (loop_instrs
+        (is_turned c)
+        (place + 1)
+        (place
+        + 2
+        + block_size setting inside.mark.tries inside.mark.tries b
+        + expression_size setting (asked c)
+        + loop_size (is_turned c)))
     statement_code inside place (for_range x from to b) =
         from_code inside place from
         ++ second_code inside (place + from_size setting from) to
@@ -291,8 +304,8 @@ module _ (setting : Setting) where
     otherwise_code inside place (elif_then _ c b rest) =
         branch_lines
         inside.mark
-        (else_place setting inside place c b rest)
-        (value_code inside place c)
+        (test_instrs (is_turned c) (test_place setting place c) (else_place setting inside place c b rest))
+        (value_code inside place (asked c))
         (block_code inside (then_place setting place c) b)
         (exit inside.mark rest (end_place setting inside place c b rest))
         (otherwise_code inside (else_place setting inside place c b rest) rest)

@@ -1,6 +1,7 @@
 -- The code of expressions is marked rightly.
 use Rattle.std.proofs.Common.{◌≡◌, ℕ, ◌+◌, ◌≤◌, List, [], ◌∷◌, ◌++◌, length, Option, Some, None, refl, ◌∙◌, ap, arith, length-append}
-use Rattle.std.specs.Prelude.{Bool, true, false, pos, is_some, unwrap_or, if◌then◌else◌}
+use Rattle.std.specs.Prelude.{Bool, true, false, pos, neg_ℤ, is_some, unwrap_or, if◌then◌else◌}
+use Rattle.kern_syntax.specs.declared.expression.UnaryOperator.{UnaryOperator}
 use Rattle.kern_syntax.specs.Tree.{Bytes, Expression, integer, true_literal, false_literal, variable, element, group, unary, binary, compare, negation, conjunction, disjunction, call, method, Arguments, no_more, value_then, text_then}
 use Rattle.kern_calls.specs.declared.calls.Builtin.{Builtin}
 use Rattle.kern_calls.specs.declared.calls.Operation.{Operation}
@@ -13,12 +14,12 @@ use Rattle.core_isa.specs.declared.code.Mark.{Mark}
 use Rattle.core_isa.specs.declared.instr.Instr.{Instr}
 use Rattle.core_isa.specs.declared.instr.Instr.TheVariants as I
 use Rattle.core_isa.specs.Marks.{HasName, after}
-use Rattle.code_forms.specs.ExpressionCode.{numbers_in, filled, expression_code, arguments_code, call_code, method_code}
+use Rattle.code_forms.specs.ExpressionCode.{numbers_in, filled, unary_lines, expression_code, arguments_code, call_code, method_code}
 use Rattle.code_forms.specs.Lines.{line, raised, straight}
-use Rattle.code_forms.specs.Operations.{unary_instrs, operator_instrs, comparison_instrs, not_instrs, load_instr, call_instrs, call_has_value, takes_numbers, array_argument, method_instrs, method_has_value}
+use Rattle.code_forms.specs.Operations.{unary_instrs, literal, negated, operator_instrs, comparison_instrs, not_instrs, load_instr, call_instrs, call_has_value, takes_numbers, array_argument, method_instrs, method_has_value}
 use Rattle.code_forms.specs.Setting as C
 use Rattle.code_forms.specs.Setting.{slot_of, length_of, index_of_text}
-use Rattle.code_forms.specs.Sizes.{unless, expression_size, arguments_size, call_size, method_size}
+use Rattle.code_forms.specs.Sizes.{unless, unary_size, expression_size, arguments_size, call_size, method_size}
 use Rattle.code_forms.specs.StatementCode.{result_mark}
 use Rattle.code_forms.specs.Suited.{IsSuited, AreSuited, HasWhatItTakes, MethodHasWhatItTakes, operation_numbers, operation_takes_text, call_is_live, method_is_live, IsStill}
 use Rattle.code_forms.specs.Texts.{expression_texts, argument_texts}
@@ -85,6 +86,15 @@ module _ (code : Code) (k : ℕ) (f : CodeFunction) (cs : C.Setting) (plain : Li
       let s' = second_lines code k place (expression_size cs e) a b (length-expression cs free mark place e) s in
       let second = straight_to code k f (place + expression_size cs e) (raised 1 mark) next is s' gives in
       part_to code k f (omega arith) refl (followed code k f refl refl (operand (first_lines code k place a b s)) second)
+
+  -- `-` and `~`, which may be one number
+  unary_part : (op : UnaryOperator) (e : Expression) (o : Option ℕ) (place : ℕ) (mark : Mark) → (StandIn code k place (expression_code cs free mark place e) → Part code k f place (place + expression_size cs e) mark (raised 1 mark)) → StandIn code k place (unary_lines mark o (expression_code cs free mark place e) (unary_instrs op (type_of cs.scope e))) → Part code k f place (place + unary_size o (expression_size cs e) (length (unary_instrs op (type_of cs.scope e)))) mark (raised 1 mark)
+  unary_part op e (Some n) place mark operand s =
+      part_to code k f refl (same_mark _ _ (omega arith) refl refl) (one_part code k f place mark (after mark 0 1) (I.Const (neg_ℤ (pos n))) s.0 s.1 (simple code k f (I.Const (neg_ℤ (pos n))) refl tt (omega arith)))
+  unary_part op e None place mark operand s =
+      let t = type_of cs.scope e in
+      let g = negates code k f op t (place + expression_size cs e) (raised 1 mark) (omega arith) in
+      one_operand e place mark (raised 1 mark) (unary_instrs op t) operand (g.0, g.1 ∙ same_mark _ _ (omega arith) refl refl) s
 
   -- and with two
   pub two_operands : (x y : Expression) (place : ℕ) (mark next : Mark) (is : List Instr) → (StandIn code k place (expression_code cs free mark place x) → Part code k f place (place + expression_size cs x) mark (raised 1 mark)) → (StandIn code k (place + expression_size cs x) (expression_code cs free (raised 1 mark) (place + expression_size cs x) y) → Part code k f (place + expression_size cs x) (place + expression_size cs x + expression_size cs y) (raised 1 mark) (raised 1 (raised 1 mark))) → Gives code k f (place + expression_size cs x + expression_size cs y) (raised 2 mark) is next → StandIn code k place (expression_code cs free mark place x ++ expression_code cs free (raised 1 mark) (place + expression_size cs x) y ++ straight (raised 2 mark) is) → Part code k f place (place + (expression_size cs x + (expression_size cs y + length is))) mark next
@@ -171,9 +181,7 @@ module _ (code : Code) (k : ℕ) (f : CodeFunction) (cs : C.Setting) (plain : Li
         part_to code k f (omega arith) (same_mark _ _ (omega arith) refl refl) (followed code k f refl refl first second)
     expression_part (group e) r t mark o place s = expression_part e r t mark o place s
     expression_part (unary op e) r t mark o place s =
-        let t' = type_of cs.scope e in
-        let g = negates code k f op t' (place + expression_size cs e) (raised 1 mark) (omega arith) in
-        one_operand e place mark (raised 1 mark) (unary_instrs op t') (expression_part e r t mark o place) (g.0, g.1 ∙ same_mark _ _ (omega arith) refl refl) s
+        unary_part op e (negated op (literal e)) place mark (expression_part e r t mark o place) s
     expression_part (binary op x y) r t mark o place s =
         let t' = type_of cs.scope (binary op x y) in
         let g = operates code k f op t' (place + expression_size cs x + expression_size cs y) (raised 2 mark) (omega arith) in

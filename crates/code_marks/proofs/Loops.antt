@@ -1,6 +1,6 @@
 -- The code of loops is marked rightly.
-use Rattle.std.proofs.Common.{◌≡◌, ℕ, ◌+◌, ◌<◌, ◌≤◌, List, [], ◌∷◌, ◌++◌, length, Option, refl, ap, arith, length-append}
-use Rattle.std.specs.Prelude.{pos}
+use Rattle.std.proofs.Common.{◌≡◌, ℕ, ◌+◌, ◌<◌, ◌≤◌, List, [], ◌∷◌, ◌++◌, length, Option, refl, sym, ap, arith, length-append}
+use Rattle.std.specs.Prelude.{Bool, true, false, pos, slice_get}
 use Rattle.kern_syntax.specs.Tree.{Bytes, Expression, Block, while_do, for_range}
 use Rattle.core_isa.specs.declared.code.Code.{Code}
 use Rattle.core_isa.specs.declared.code.CodeFunction.{CodeFunction}
@@ -8,6 +8,7 @@ use Rattle.core_isa.specs.declared.code.CodeLine.{CodeLine}
 use Rattle.core_isa.specs.declared.code.Mark.{Mark}
 use Rattle.core_isa.specs.declared.instr.Instr.TheVariants as I
 use Rattle.core_isa.specs.Marks.{after, takes_unit_first}
+use Rattle.code_forms.specs.Conditions.{is_turned, asked, loop_instrs, loop_size}
 use Rattle.code_forms.specs.Lines.{line, raised, straight}
 use Rattle.code_forms.specs.Setting as C
 use Rattle.code_forms.specs.Setting.{slot_of}
@@ -22,31 +23,43 @@ module _ (code : Code) (k : ℕ) (f : CodeFunction) (cs : C.Setting) (inside : I
   abbrev mark : Mark
   mark = inside.mark
 
+  -- the test at the end of a loop goes back to a turn, or on past the loop
+  loop_part : (turned : Bool) (place turn past : ℕ) → place + loop_size turned ≡ past → takes_unit_first (slice_get code.lines turn) ≡ true → HasMark code k turn mark → HasMark code k past mark → StandIn code k place (straight (raised 1 mark) (loop_instrs turned turn past)) → Part code k f place past (raised 1 mark) mark
+  loop_part false place turn past ends unit at_turn at_past s =
+      let back : mark ≡ after (raised 1 mark) 1 0 = same_mark _ _ (omega arith) refl refl in
+      part_to code k f (omega (arith, ends)) refl (ends_part code k f place (raised 1 mark) mark (I.JumpZero past ∷ []) (I.Jump turn) s (test code k f past (omega arith) (omega (arith, ends)) (has_as code k refl back at_past), tt) (jump_back code k f turn unit (has_as code k refl back at_turn)))
+  loop_part true place turn past ends unit at_turn at_past s =
+      let back : mark ≡ after (raised 1 mark) 1 0 = same_mark _ _ (omega arith) refl refl in
+      part_to code k f ends (sym back) (one_part code k f place (raised 1 mark) (after (raised 1 mark) 1 0) (I.JumpZero turn) s.0 s.1 (test_back code k f turn (omega arith) unit (has_as code k refl back at_turn)))
+
   module _ (c : Expression) (b : Block) (place : ℕ) where
     abbrev nb : ℕ
     nb = block_size cs mark.tries mark.tries b
 
     abbrev nc : ℕ
-    nc = expression_size cs c
+    nc = expression_size cs (asked c)
+
+    abbrev ne : ℕ
+    ne = loop_size (is_turned c)
 
     -- where the condition stands, and where the loop ends
     abbrev pub again : ℕ
     again = place + 2 + nb
 
     abbrev pub past : ℕ
-    past = again + nc + 2
+    past = again + nc + ne
 
     abbrev pub while_body : List CodeLine
     while_body = block_code cs (in_loop again past inside) (place + 2) b
 
-    pub while_part : (StandIn code k again (value_code cs inside again c) → Part code k f again (again + nc) mark (raised 1 mark)) → (HasMark code k again mark → HasMark code k past mark → StandIn code k (place + 2) while_body → Part code k f (place + 2) (place + 2 + nb) mark mark) → StandIn code k place (statement_code cs inside place (while_do c b)) → Part code k f place (place + (2 + (nb + (nc + 2)))) mark mark
+    pub while_part : (StandIn code k again (value_code cs inside again (asked c)) → Part code k f again (again + nc) mark (raised 1 mark)) → (HasMark code k again mark → HasMark code k past mark → StandIn code k (place + 2) while_body → Part code k f (place + 2) (place + 2 + nb) mark mark) → StandIn code k place (statement_code cs inside place (while_do c b)) → Part code k f place (place + (2 + (nb + (nc + ne)))) mark mark
     while_part condition body s has =
         let j = line mark (I.Jump again) in
         let t = line mark I.Turn in
-        let v = value_code cs inside again c in
-        let ends = straight (raised 1 mark) (I.JumpZero past ∷ I.Jump (place + 1) ∷ []) in
+        let v = value_code cs inside again (asked c) in
+        let ends = straight (raised 1 mark) (loop_instrs (is_turned c) (place + 1) past) in
         let lb : length (j ∷ t ∷ while_body) ≡ 2 + nb = omega (arith, length-block cs (in_loop again past inside) (place + 2) b) in
-        let lc : length (j ∷ t ∷ while_body ++ v) ≡ 2 + nb + nc = omega (arith, length-append (j ∷ t ∷ while_body) v, lb, length-expression cs inside.free mark again c) in
+        let lc : length (j ∷ t ∷ while_body ++ v) ≡ 2 + nb + nc = omega (arith, length-append (j ∷ t ∷ while_body) v, lb, length-expression cs inside.free mark again (asked c)) in
         let front = first_lines code k place (j ∷ t ∷ while_body ++ v) ends s in
         let first = first_lines code k place (j ∷ t ∷ while_body) v front in
         let s_c = stand_as code k v (let same : place + (2 + nb) ≡ again = omega arith in same) (second_lines code k place (2 + nb) (j ∷ t ∷ while_body) v lb front) in
@@ -54,8 +67,7 @@ module _ (code : Code) (k : ℕ) (f : CodeFunction) (cs : C.Setting) (inside : I
         let s_b = stand_as code k while_body (let same : place + 1 + 1 ≡ place + 2 = omega arith in same) first.2.2 in
         let at_past : HasMark code k past mark = has_as code k (omega arith) refl has in
         let at_turn : HasMark code k (place + 1) mark = mark_of code k (place + 1) mark I.Turn first.2.0 first.2.1 in
-        let back : mark ≡ after (raised 1 mark) 1 0 = same_mark _ _ (omega arith) refl refl in
-        let tail : Part code k f (again + nc) (again + nc + 1 + 1) (raised 1 mark) mark = ends_part code k f (again + nc) (raised 1 mark) mark (I.JumpZero past ∷ []) (I.Jump (place + 1)) s_e (test code k f past (omega arith) (omega arith) (has_as code k refl back at_past), tt) (jump_back code k f (place + 1) (ap takes_unit_first first.2.0) (has_as code k refl back at_turn)) in
+        let tail : Part code k f (again + nc) past (raised 1 mark) mark = loop_part (is_turned c) (again + nc) (place + 1) past refl (ap takes_unit_first first.2.0) at_turn at_past s_e in
         let loop : Part code k f again past mark mark = part_to code k f (omega arith) refl (followed code k f refl refl (condition s_c) tail) in
         let at_again = (loop at_past).0 in
         let pj = one_part code k f place mark mark (I.Jump again) first.0 first.1 (jump code k f again (omega arith) at_again) in

@@ -1,9 +1,10 @@
 -- The code of every expression leaves its value, as it is meant.
 use Rattle.std.proofs.Common.{◌≡◌, ℕ, ◌+◌, List, [], ◌∷◌, ◌++◌, length, reverse, Option, Some, None, refl, sym, ◌∙◌, ap, subst, arith, length-append}
-use Rattle.std.specs.Prelude.{Bool, true, false, ℤ, pos, ⊤}
+use Rattle.std.specs.Prelude.{Bool, true, false, ℤ, pos, neg_ℤ, ⊤}
 use Rattle.std.proofs.lemmas.Bool.{false≢true}
 use Rattle.std.proofs.lemmas.Grind.{reverse_onto}
 use Rattle.rtio_types.specs.declared.request.Reply.{Reply}
+use Rattle.kern_syntax.specs.declared.expression.UnaryOperator.{UnaryOperator}
 use Rattle.kern_syntax.specs.Tree.{Bytes, Expression, integer, true_literal, false_literal, variable, element, group, unary, binary, compare, negation, conjunction, disjunction, call, method, Arguments, no_more, value_then, text_then}
 use Rattle.kern_calls.specs.declared.types.ValueType.{ValueType}
 use Rattle.kern_calls.specs.declared.types.ValueType.TheVariants as V
@@ -19,15 +20,15 @@ use Rattle.core_isa.specs.declared.code.Mark.{Mark}
 use Rattle.core_isa.specs.declared.instr.Instr.{Instr}
 use Rattle.core_isa.specs.declared.instr.Instr.TheVariants as I
 use Rattle.code_forms.specs.Setting as C
-use Rattle.code_forms.specs.ExpressionCode.{expression_code, arguments_code, call_lines, filled, numbers_in}
+use Rattle.code_forms.specs.ExpressionCode.{expression_code, arguments_code, unary_lines, call_lines, filled, numbers_in}
 use Rattle.code_forms.specs.Lines.{line, raised, straight}
-use Rattle.code_forms.specs.Operations.{operator_instrs, unary_instrs, comparison_instrs, not_instrs, wrapping, load_instr, call_has_value, takes_numbers, array_argument, method_instrs, method_has_value}
-use Rattle.code_forms.specs.Sizes.{expression_size, arguments_size, call_size, method_size, unless}
+use Rattle.code_forms.specs.Operations.{operator_instrs, unary_instrs, literal, negated, comparison_instrs, not_instrs, wrapping, load_instr, call_has_value, takes_numbers, array_argument, method_instrs, method_has_value}
+use Rattle.code_forms.specs.Sizes.{expression_size, arguments_size, unary_size, call_size, method_size, unless}
 use Rattle.code_forms.specs.Texts.{expression_texts, argument_texts}
 use Rattle.code_forms.proofs.Lengths.{length-expression, length-arguments}
 use Rattle.code_follows.specs.Stands.{Local, holding, Setting, Fits64, AllFit64, result_operands}
 use Rattle.code_follows.specs.Parts.{Moved, Follows, Stand, deeper, alone}
-use Rattle.code_follows.proofs.Compose.{moved, moves_of, follows_bind, follows_if, by_fits}
+use Rattle.code_follows.proofs.Compose.{moved, moves_of, follows_bind, follows_if, follows_same, by_fits}
 use Rattle.code_follows.proofs.Beneath.{follows_beneath}
 use Rattle.code_follows.proofs.Choices.{follows_conjunction, follows_disjunction, small_fits}
 use Rattle.code_follows.proofs.Comparisons.{follows_not, follows_unary, follows_comparison}
@@ -40,6 +41,7 @@ use Rattle.code_follows.proofs.Variables.{IsScalar, follows_load}
 use Rattle.code_forms.specs.Suited.{is_scalar, MethodHasWhatItTakes, IsSuited, AreSuited}
 use Rattle.code_meaning.proofs.Known.{TextsIn, in_front, in_back, its_text, Known, At, at_deeper, follows_to}
 use Rattle.code_meaning.proofs.Methods.{follows_operation}
+use Rattle.code_meaning.proofs.Negated.{negated_means, negated_fits}
 use Rattle.code_meaning.proofs.NamedCalls.{call_text, follows_call_by}
 
 pub scalar : (t : ValueType) → is_scalar t ≡ true → IsScalar t
@@ -78,6 +80,13 @@ module _ (given : List Reply) (code : Code) (cs : C.Setting) (plain : List Bytes
       let si = straight_stands code.lines (place + n) above is (second_part code.lines place n ce (straight above is) (length-expression cs free mark place e) s) in
       let past : place + n + length is ≡ place + (n + length is) = omega arith in
       follows_to given code past (follows_bind given code (fe se) (λ v. fi v si))
+
+  -- `-` and `~`, which may be one number
+  unary_or_number : (setting : Setting) (mark : Mark) (place : ℕ) (op : UnaryOperator) (e : Expression) (o : Option ℕ) → negated op (literal e) ≡ o → IsSuited cs plain in_record e → (LinesStand code.lines place (expression_code cs free mark place e) → Gives setting place e) → LinesStand code.lines place (unary_lines mark o (expression_code cs free mark place e) (unary_instrs op (type_of cs.scope e))) → Follows given code ⊤ most (alone setting) place (place + unary_size o (expression_size cs e) (length (unary_instrs op (type_of cs.scope e)))) (holding []) Fits64 (λ v. holding (v ∷ [])) (expression cs.scope callee (unary op e))
+  unary_or_number setting mark place op e (Some n) is r fe s =
+      follows_same given code (negated_means cs plain in_record op e n is r callee) (follows_const given code [] [] (neg_ℤ (pos n)) (negated_fits cs plain in_record op e n is r) (one_line code.lines place mark (I.Const (neg_ℤ (pos n))) [] s))
+  unary_or_number setting mark place op e None is r fe s =
+      unary_part setting mark (raised 1 mark) place e (unary_instrs op (type_of cs.scope e)) Fits64 (λ w. holding (w ∷ [])) _ fe (λ v st. follows_unary given code [] [] op (type_of cs.scope e) v st) s
 
   -- two operands, and what is done with them
   pub binary_part : {B : Type 0} (setting : Setting) (mark above : Mark) (place : ℕ) (a b : Expression) (is : List Instr) (good : B → Type 0) (results : B → Local) (action : ℤ → ℤ → Action B) → (LinesStand code.lines place (expression_code cs free mark place a) → Gives setting place a) → (LinesStand code.lines (place + expression_size cs a) (expression_code cs free (raised 1 mark) (place + expression_size cs a) b) → Gives (deeper [] setting) (place + expression_size cs a) b) → ((v w : ℤ) → Stand code.lines (place + expression_size cs a + expression_size cs b) is → Follows given code ((⊤ × Fits64 v) × Fits64 w) most (alone setting) (place + expression_size cs a + expression_size cs b) (place + expression_size cs a + expression_size cs b + length is) (holding (w ∷ v ∷ [])) good results (action v w)) → LinesStand code.lines place (expression_code cs free mark place a ++ expression_code cs free (raised 1 mark) (place + expression_size cs a) b ++ straight above is) → Follows given code ⊤ most (alone setting) place (place + (expression_size cs a + (expression_size cs b + length is))) (holding []) good results (expression cs.scope callee a >>= λ v. expression cs.scope callee b >>= action v)
@@ -148,7 +157,7 @@ module _ (given : List Reply) (code : Code) (cs : C.Setting) (plain : List Bytes
         follows_to given code past (follows_bind given code (follows_expression i r.2 t mark place se setting at) (λ v. follows_load_at given code {setting = alone setting} [] [] x n v here s2))
     follows_expression (group e) r t mark place s setting at = follows_expression e r t mark place s setting at
     follows_expression (unary op e) r t mark place s setting at =
-        unary_part setting mark (raised 1 mark) place e (unary_instrs op (type_of cs.scope e)) Fits64 (λ w. holding (w ∷ [])) _ (λ se. follows_expression e r t mark place se setting at) (λ v st. follows_unary given code [] [] op (type_of cs.scope e) v st) s
+        unary_or_number setting mark place op e (negated op (literal e)) refl r (λ se. follows_expression e r t mark place se setting at) s
     follows_expression (binary op a b) r t mark place s setting at =
         let ty = type_of cs.scope (binary op a b) in
         let na = expression_size cs a in

@@ -11,6 +11,7 @@ pub mod Lookups
 pub mod LoopExits
 pub mod Methods
 pub mod NamedCalls
+pub mod Negated
 pub mod Order
 pub mod ParallelBlocks
 pub mod Places

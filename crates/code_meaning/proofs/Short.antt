@@ -22,11 +22,12 @@ use Rattle.kern_calls.specs.Types.{type_of}
 use Rattle.timeline_sem.specs.Expressions.{text_in}
 use Rattle.code_forms.specs.Setting as C
 use Rattle.code_forms.specs.ExpressionCode.{numbers_in}
-use Rattle.code_forms.specs.Operations.{wrapping, unary_instrs, comparison_instrs, builtin_instrs, call_instrs, call_has_value, takes_numbers, array_argument, operation_instrs, method_instrs, method_has_value}
+use Rattle.code_forms.specs.Operations.{wrapping, unary_instrs, literal, negated, comparison_instrs, builtin_instrs, call_instrs, call_has_value, takes_numbers, array_argument, operation_instrs, method_instrs, method_has_value}
 use Rattle.code_forms.specs.Programs.{setting_of, plain_names, function_code, function_size, functions_code, code_of_program}
 use Rattle.code_forms.specs.Texts.{texts_of}
-use Rattle.code_forms.specs.Sizes.{unless, when, expression_size, arguments_size, effect_size, stored_size, return_size, from_size, exit_size, statement_size, block_size, parallel_size, otherwise_size, handlers_size}
+use Rattle.code_forms.specs.Sizes.{unless, when, unary_size, expression_size, arguments_size, effect_size, stored_size, return_size, from_size, exit_size, statement_size, block_size, parallel_size, otherwise_size, handlers_size}
 use Rattle.code_forms.specs.Suited.{MethodHasWhatItTakes, operation_numbers, IsSuited, AreSuited, IsSuitedAlone, IfThereSuited, EachSuited, IsSuitedStatement, IsSuitedBlock, IsSuitedOtherwise, AreSuitedHandlers}
+use Rattle.code_forms.proofs.Asked.{asked_short, asked_looping_short}
 use Rattle.code_forms.proofs.StatementLengths.{functions_have_their_size}
 use Rattle.code_suited.proofs.Functions.{typed_is_suited}
 use Rattle.kern_types.specs.Checked.{IsChecked}
@@ -40,6 +41,10 @@ wrapping_short (V.Array n) = omega arith
 unary_short : (op : UnaryOperator) (t : ValueType) → length (unary_instrs op t) ≤ 2
 unary_short U.Negate t = omega (arith, wrapping_short t)
 unary_short U.Invert t = omega (arith, wrapping_short t)
+
+negated_short : (o : Option ℕ) (operand own : ℕ) → unary_size o operand own ≤ operand + own + 1
+negated_short (Some n) operand own = omega arith
+negated_short None operand own = omega arith
 
 comparison_short : (op : Comparison) → length (comparison_instrs op) ≤ 3
 comparison_short K.Equal = omega arith
@@ -121,7 +126,8 @@ module _ (cs : C.Setting) (plain : List Bytes) where
     expression_short d (variable x) r = omega arith
     expression_short d (element x i) r = omega (arith, expression_short d i r.2)
     expression_short d (group e) r = omega (arith, expression_short d e r)
-    expression_short d (unary op e) r = omega (arith, expression_short d e r, unary_short op (type_of cs.scope e))
+    expression_short d (unary op e) r =
+        omega (arith, expression_short d e r, unary_short op (type_of cs.scope e), negated_short (negated op (literal e)) (expression_size cs e) (length (unary_instrs op (type_of cs.scope e))))
     expression_short d (binary op a b) r = omega (arith, expression_short d a r.0, expression_short d b r.1, wrapping_short (type_of cs.scope (binary op a b)))
     expression_short d (compare op a b) r = omega (arith, expression_short d a r.0, expression_short d b r.1, comparison_short op)
     expression_short d (negation e) r = omega (arith, expression_short d e r)
@@ -192,10 +198,10 @@ module _ (cs : C.Setting) (plain : List Bytes) where
     statement_short l m d tries kept room more (assign_list a es) r g t six x y = omega (arith, six, stored_short d es r.1)
     statement_short l m d tries kept room more (if_then c b rest) r g t six x y =
         let k = one_deeper room _ g.1 in
-        omega (arith, six, expression_short d c r.0, block_short l m d tries kept k.0 b r.1 k.2.1 (omega (arith, t, k.1)), otherwise_short l m d tries kept k.0 rest r.2 k.2.2 (omega (arith, t, k.1)), exit_short cs rest)
+        omega (arith, six, expression_short d c r.0, asked_short cs c, block_short l m d tries kept k.0 b r.1 k.2.1 (omega (arith, t, k.1)), otherwise_short l m d tries kept k.0 rest r.2 k.2.2 (omega (arith, t, k.1)), exit_short cs rest)
     statement_short l m d tries kept room more (while_do c b) r g t six x y =
         let k = one_deeper room _ g.1 in
-        omega (arith, six, expression_short d c r.0, block_short true m d tries tries k.0 b r.1 k.2.1 (omega (arith, t, k.1)))
+        omega (arith, six, expression_short d c r.0, asked_looping_short cs c, block_short true m d tries tries k.0 b r.1 k.2.1 (omega (arith, t, k.1)))
     statement_short l m d tries kept room more (for_range a from to b) r g t six x y =
         let k = one_deeper room _ g.2 in
         omega (arith, six, from_short d from r.1, expression_short d to r.2, block_short true m d tries tries k.0 b r.3 k.2.1 (omega (arith, t, k.1)))
@@ -226,7 +232,7 @@ module _ (cs : C.Setting) (plain : List Bytes) where
     otherwise_short l m d tries kept room no_else r g t = omega arith
     otherwise_short l m d tries kept room (else_do b) r g t = omega (arith, block_short l m d tries kept room b r g.1 t)
     otherwise_short l m d tries kept room (elif_then ln c b rest) r g t =
-        omega (arith, expression_short d c r.0, block_short l m d tries kept room b r.1 g.2 t, otherwise_short l m d tries kept room rest r.2 g.3 t, exit_short cs rest)
+        omega (arith, expression_short d c r.0, asked_short cs c, block_short l m d tries kept room b r.1 g.2 t, otherwise_short l m d tries kept room rest r.2 g.3 t, exit_short cs rest)
 
     handlers_short : (l m d : Bool) (tries kept room : ℕ) (handlers : Handlers) → AreSuitedHandlers cs plain l m d handlers → AreHandlers room handlers → tries + room ≤ 15 → handlers_size cs tries kept handlers ≤ 16 * handler_nodes handlers + 1
     handlers_short l m d tries kept room no_handler r g t = omega arith

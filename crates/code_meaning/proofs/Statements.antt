@@ -72,7 +72,7 @@ module _ (given : List Reply) (code : Code) (cs : C.Setting) (plain : List Bytes
     follows_statement (if_then c b rest) l may d r t inside place s most setting g limit =
         let tcb = in_front cs.texts (expression_texts c ++ block_texts b) (otherwise_texts rest) t in
         let tr = in_back cs.texts (expression_texts c ++ block_texts b) (otherwise_texts rest) t in
-        follows_branches given code cs plain callee room known d c b rest r.0 (in_front cs.texts (expression_texts c) (block_texts b) tcb) inside place s most setting (at_of cs room l may d inside setting g (omega (arith, limit, one_slot b))) (λ p lines. follows_block b l may d r.1 (in_back cs.texts (expression_texts c) (block_texts b) tcb) inside p lines most setting g (omega (arith, limit))) (λ p lines. follows_otherwise rest l may d r.2 tr inside p lines most setting g (omega (arith, limit)))
+        follows_branches given code cs plain callee room known d c b r.0 (in_front cs.texts (expression_texts c) (block_texts b) tcb) inside place most setting (at_of cs room l may d inside setting g (omega (arith, limit, one_slot b))) (λ p lines. follows_block b l may d r.1 (in_back cs.texts (expression_texts c) (block_texts b) tcb) inside p lines most setting g (omega (arith, limit))) rest s (λ p lines. follows_otherwise rest l may d r.2 tr inside p lines most setting g (omega (arith, limit)))
     follows_statement (while_do c b) l may d r t inside place s most setting g limit =
         follows_while_do given code cs plain callee room known most l may d inside place setting g c b r.0 (in_back cs.texts (block_texts b) (expression_texts c) t) (omega (arith, limit, one_slot b)) (λ k again past p lines. follows_block b true may d r.1 (in_front cs.texts (block_texts b) (expression_texts c) t) _ p lines k (body_setting setting [] again past) (placed_loop cs room l may d inside setting again past g) (omega (arith, limit, length-append setting.temporaries []))) s
     follows_statement (for_range x from to b) l may d r t inside place s most setting g limit =
@@ -108,7 +108,7 @@ module _ (given : List Reply) (code : Code) (cs : C.Setting) (plain : List Bytes
     follows_otherwise (elif_then ln c b rest) l may d r t inside place s most setting g limit =
         let tcb = in_front cs.texts (expression_texts c ++ block_texts b) (otherwise_texts rest) t in
         let tr = in_back cs.texts (expression_texts c ++ block_texts b) (otherwise_texts rest) t in
-        follows_branches given code cs plain callee room known d c b rest r.0 (in_front cs.texts (expression_texts c) (block_texts b) tcb) inside place s most setting (at_of cs room l may d inside setting g (omega (arith, limit, one_slot b))) (λ p lines. follows_block b l may d r.1 (in_back cs.texts (expression_texts c) (block_texts b) tcb) inside p lines most setting g (omega (arith, limit))) (λ p lines. follows_otherwise rest l may d r.2 tr inside p lines most setting g (omega (arith, limit)))
+        follows_branches given code cs plain callee room known d c b r.0 (in_front cs.texts (expression_texts c) (block_texts b) tcb) inside place most setting (at_of cs room l may d inside setting g (omega (arith, limit, one_slot b))) (λ p lines. follows_block b l may d r.1 (in_back cs.texts (expression_texts c) (block_texts b) tcb) inside p lines most setting g (omega (arith, limit))) rest s (λ p lines. follows_otherwise rest l may d r.2 tr inside p lines most setting g (omega (arith, limit)))
 
     pub follows_handlers : (handlers : Handlers) (l may d : Bool) → AreSuitedHandlers cs plain l may d handlers → TextsIn cs.texts (handler_texts handlers) → (inside : Inside) (place end : ℕ) → LinesStand code.lines place (handlers_code cs inside place end handlers) → (x : Exc) (most : ℕ) (setting : Setting) → Placed cs room l may d inside setting → length setting.temporaries + handlers_slots handlers ≤ setting.limit → Follows given code ⊤ most setting place end (holding (code_of x ∷ [])) (λ v. ⊤) (λ v. holding []) (handler cs.scope callee handlers x)
     follows_handlers no_handler l may d r t inside place end s x most setting g limit =

@@ -1,8 +1,9 @@
 -- The code of an expression is in its ranges where it fits.
-use Rattle.std.proofs.Common.{◌≡◌, ℕ, ◌+◌, ◌<◌, ◌≤◌, ◌^◌, List, [], ◌∷◌, ◌++◌, length, max, refl, arith}
-use Rattle.std.specs.Prelude.{Bool, true, false, pos, if◌then◌else◌}
+use Rattle.std.proofs.Common.{◌≡◌, ℕ, zero, suc, ◌+◌, ◌<◌, ◌≤◌, ◌^◌, List, [], ◌∷◌, ◌++◌, length, max, Option, Some, None, refl, subst, arith}
+use Rattle.std.specs.Prelude.{Bool, true, false, pos, neg_ℤ, if◌then◌else◌}
 use Rattle.std.proofs.lemmas.Bool.{lt-ltb, false≢true}
 use Rattle.kern_syntax.specs.Spellable.{IsSpellable, AreSpellable}
+use Rattle.kern_syntax.specs.declared.expression.UnaryOperator.{UnaryOperator}
 use Rattle.kern_syntax.specs.Tree.{Bytes, Expression, integer, true_literal, false_literal, variable, element, group, unary, binary, compare, negation, conjunction, disjunction, call, method, Arguments, no_more, value_then, text_then}
 use Rattle.kern_calls.specs.Calls.{look_up, builtin_named, method_named}
 use Rattle.kern_calls.specs.Types.{type_of}
@@ -12,11 +13,12 @@ use Rattle.core_isa.specs.declared.code.Mark.{Mark}
 use Rattle.core_isa.specs.declared.instr.Instr.{Instr}
 use Rattle.core_isa.specs.declared.instr.Instr.TheVariants as I
 use Rattle.core_image.specs.Ranges.{is_short}
-use Rattle.code_forms.specs.ExpressionCode.{numbers_in, filled, dropped, call_lines, method_lines, expression_code, arguments_code, effect_code}
+use Rattle.code_forms.specs.ExpressionCode.{numbers_in, filled, dropped, unary_lines, call_lines, method_lines, expression_code, arguments_code, effect_code}
 use Rattle.code_forms.specs.Lines.{line, raised, straight}
-use Rattle.code_forms.specs.Operations.{operator_instrs, unary_instrs, comparison_instrs, not_instrs, load_instr, call_instrs, call_has_value, takes_numbers, array_argument, method_instrs, method_has_value}
+use Rattle.code_forms.specs.Operations.{operator_instrs, unary_instrs, literal, negated, comparison_instrs, not_instrs, load_instr, call_instrs, call_has_value, takes_numbers, array_argument, method_instrs, method_has_value}
 use Rattle.code_forms.specs.Setting.{Setting, slot_of, length_of}
-use Rattle.code_forms.specs.Sizes.{unless, when, expression_size, arguments_size, effect_size}
+use Rattle.code_forms.specs.Sizes.{unless, when, unary_size, expression_size, arguments_size, effect_size}
+use Rattle.code_forms.proofs.Literals.{negated_is}
 use Rattle.code_ranges.specs.Fits.{SettingFits}
 use Rattle.code_ranges.specs.Heights.{expression_height, arguments_height}
 use Rattle.code_ranges.proofs.Straight.{LinesFit, no_lines, one_more, both_fit, MarkFits, InstrFits, InstrsFit, line_fits, single, straight_fits}
@@ -107,6 +109,28 @@ module _ (setting : Setting) (fits : SettingFits setting) (free : ℕ) (free_fit
       let right = method_fits setting fits free free_fits o m (text_in args) place (method_named o m) refl (omega (arith, same, most)) in
       both_fit numbers (straight (raised (numbers_in args) mark) own) n (row_above mark (numbers_in args) h own r (omega (arith, few, less)) (omega (arith, few)) right)
 
+  -- a number below 0
+  negative_fits : (n : ℕ) → n < 2 ^ 63 → InstrFits (I.Const (neg_ℤ (pos n)))
+  negative_fits zero less = refl
+  negative_fits (suc n) less = lt-ltb n 9223372036854775808 (omega (arith, less))
+
+  negated_fits : (op : UnaryOperator) (e : Expression) (n : ℕ) → negated op (literal e) ≡ Some n → IsSpellable e → InstrFits (I.Const (neg_ℤ (pos n)))
+  negated_fits op e n is s = negative_fits n (subst IsSpellable (negated_is op e n is).operand s)
+
+  -- `-` and `~`, which may be one number
+  unary_ranged : (mark : Mark) (place : ℕ) (op : UnaryOperator) (e : Expression) (o : Option ℕ) → negated op (literal e) ≡ o → IsSpellable e → IsRoomy mark (max (expression_height e) 14) → place + unary_size o (expression_size setting e) (length (unary_instrs op (type_of setting.scope e))) < 2 ^ 32 → (place + expression_size setting e < 2 ^ 32 → LinesFit (expression_code setting free mark place e)) → LinesFit (unary_lines mark o (expression_code setting free mark place e) (unary_instrs op (type_of setting.scope e)))
+  unary_ranged mark place op e (Some n) is s r p operand =
+      single mark (I.Const (neg_ℤ (pos n))) (roomy_mark mark _ r) (negated_fits op e n is s)
+  unary_ranged mark place op e None is s r p operand =
+      let h = max (expression_height e) 14 in
+      let own = unary_instrs op (type_of setting.scope e) in
+      let few = unary_short op (type_of setting.scope e) in
+      both_fit
+      (expression_code setting free mark place e)
+      (straight (raised 1 mark) own)
+      (operand (omega (arith, p)))
+      (row_above mark 1 h own r (omega (arith, few)) (omega (arith, few)) (unary_fits op (type_of setting.scope e)))
+
   mutual
     pub expression_ranged : (mark : Mark) (place : ℕ) (e : Expression) → IsSpellable e → IsRoomy mark (expression_height e) → place + expression_size setting e < 2 ^ 32 → LinesFit (expression_code setting free mark place e)
     expression_ranged mark place (integer n) s r p = single mark (I.Const (pos n)) (roomy_mark mark _ r) (lt-ltb n 9223372036854775808 (omega (arith, s)))
@@ -123,14 +147,7 @@ module _ (setting : Setting) (fits : SettingFits setting) (free : ℕ) (free_fit
         (line_above mark 1 h (I.LoadAt (slot_of setting x) (length_of setting x)) r (omega arith) (two_fit setting fits x))
     expression_ranged mark place (group e) s r p = expression_ranged mark place e s r p
     expression_ranged mark place (unary op e) s r p =
-        let h = max (expression_height e) 14 in
-        let own = unary_instrs op (type_of setting.scope e) in
-        let few = unary_short op (type_of setting.scope e) in
-        both_fit
-        (expression_code setting free mark place e)
-        (straight (raised 1 mark) own)
-        (expression_ranged mark place e s (less_roomy mark h (expression_height e) r (omega arith)) (omega (arith, p)))
-        (row_above mark 1 h own r (omega (arith, few)) (omega (arith, few)) (unary_fits op (type_of setting.scope e)))
+        unary_ranged mark place op e (negated op (literal e)) refl s r p (λ less. expression_ranged mark place e s (less_roomy mark (max (expression_height e) 14) (expression_height e) r (omega arith)) less)
     expression_ranged mark place (binary op a b) s r p =
         let own = operator_instrs op (type_of setting.scope (binary op a b)) in
         let few = operator_short op (type_of setting.scope (binary op a b)) in

@@ -1,3 +1,4 @@
+pub mod Asked
 pub mod ExpressionRanges
 pub mod FewTexts
 pub mod Functions

@@ -9,6 +9,7 @@ use Rattle.core_isa.specs.declared.instr.Instr.{Instr}
 use Rattle.core_isa.specs.declared.instr.Instr.TheVariants as I
 use Rattle.core_isa.specs.Marks.{after}
 use Rattle.core_image.specs.Ranges.{is_short, is_integer}
+use Rattle.code_forms.specs.Conditions.{test_instrs, test_size, loop_instrs}
 use Rattle.code_forms.specs.Lines.{line, raised, straight}
 use Rattle.code_forms.specs.StatementCode.{LoopPlaces, Inside, code_of_name, leaving, returning, no_result, no_value, result_mark, moved, exit, branch_lines}
 use Rattle.code_ranges.specs.ReadyStatements.{HasSpace}
@@ -68,16 +69,33 @@ exit_fits mark no_else end m less = no_lines
 exit_fits mark (else_do b) end m less = single mark (I.Jump end) m (place_is end less)
 exit_fits mark (elif_then ln c b rest) end m less = single mark (I.Jump end) m (place_is end less)
 
-pub branch_fits : (mark : Mark) (else_at : ℕ) (condition body leave rest : List CodeLine) → MarkFits (raised 1 mark) → else_at < 2 ^ 32 → LinesFit condition → LinesFit body → LinesFit leave → LinesFit rest → LinesFit (branch_lines mark else_at condition body leave rest)
-branch_fits mark else_at condition body leave rest m less c b l r =
-    let test = line (raised 1 mark) (I.JumpZero else_at) in
+-- the test of a branch, and of a loop
+pub test_fits : (turned : Bool) (place elsewhere : ℕ) → place + test_size turned ≤ elsewhere → elsewhere < 2 ^ 32 → InstrsFit (test_instrs turned place elsewhere)
+test_fits false place elsewhere before less = (place_is elsewhere less, tt)
+test_fits true place elsewhere before less = (place_is (place + 2) (omega (arith, before, less)), (place_is elsewhere less, tt))
+
+pub test_short : (turned : Bool) (place elsewhere : ℕ) → length (test_instrs turned place elsewhere) ≤ 20
+test_short false place elsewhere = omega arith
+test_short true place elsewhere = omega arith
+
+pub loop_fits : (turned : Bool) (turn past : ℕ) → turn < 2 ^ 32 → past < 2 ^ 32 → InstrsFit (loop_instrs turned turn past)
+loop_fits false turn past first last = (place_is past last, (place_is turn first, tt))
+loop_fits true turn past first last = (place_is turn first, tt)
+
+pub loop_short : (turned : Bool) (turn past : ℕ) → length (loop_instrs turned turn past) ≤ 20
+loop_short false turn past = omega arith
+loop_short true turn past = omega arith
+
+pub branch_fits : (mark : Mark) (test : List Instr) (condition body leave rest : List CodeLine) → LinesFit (straight (raised 1 mark) test) → LinesFit condition → LinesFit body → LinesFit leave → LinesFit rest → LinesFit (branch_lines mark test condition body leave rest)
+branch_fits mark test condition body leave rest t c b l r =
+    let tests = straight (raised 1 mark) test in
     both_fit
-    ((condition ++ (test ∷ body)) ++ leave)
+    (condition ++ tests ++ body ++ leave)
     rest
     (both_fit
-    (condition ++ (test ∷ body))
+    (condition ++ tests ++ body)
     leave
-    (both_fit condition (test ∷ body) c (one_more test body (line_fits (raised 1 mark) (I.JumpZero else_at) m (place_is else_at less)) b))
+    (both_fit (condition ++ tests) body (both_fit condition tests c t) b)
     l)
     r
 

@@ -9,19 +9,21 @@ use Rattle.timeline_sem.specs.Statements.{operator_of}
 use Rattle.core_isa.specs.declared.code.Mark.{Mark}
 use Rattle.core_isa.specs.declared.instr.Instr.TheVariants as I
 use Rattle.core_image.specs.Ranges.{is_short}
+use Rattle.code_forms.specs.Conditions.{is_turned, asked, test_instrs, loop_instrs, loop_size}
 use Rattle.code_forms.specs.ExpressionCode.{expression_code}
 use Rattle.code_forms.specs.Lines.{line, raised, with_handler, with_recording, straight}
 use Rattle.code_forms.specs.Operations.{operator_instrs}
 use Rattle.code_forms.specs.Setting.{Setting, slot_of, length_of, index_of_text}
 use Rattle.code_forms.specs.Sizes.{expression_size, stored_size, return_size, from_size, statement_size, block_size, parallel_size, otherwise_size, handlers_size}
-use Rattle.code_forms.specs.StatementCode.{Inside, keeping, in_loop, under, code_of_name, returning, no_value, result_mark, moved, exit, then_place, else_place, end_place, turns_place, for_begins, for_goes_on, value_code, second_code, return_code, from_code, stored_code, statement_code, block_code, parallel_code, otherwise_code, handlers_code}
+use Rattle.code_forms.specs.StatementCode.{Inside, keeping, in_loop, under, code_of_name, returning, no_value, result_mark, moved, exit, test_place, then_place, else_place, end_place, turns_place, for_begins, for_goes_on, value_code, second_code, return_code, from_code, stored_code, statement_code, block_code, parallel_code, otherwise_code, handlers_code}
 use Rattle.code_ranges.specs.Fits.{SettingFits}
 use Rattle.code_ranges.specs.Ready.{ExpressionFits}
 use Rattle.code_ranges.specs.ReadyStatements.{HasSpace, FitsIfThere, EachFits, StatementFits, BlockFits, OtherwiseFits, HandlersFit}
 use Rattle.code_ranges.proofs.Straight.{LinesFit, no_lines, one_more, both_fit, line_fits, single, instrs_and}
 use Rattle.code_ranges.proofs.Operators.{operator_fits, operator_short, slot_fits, two_fit, text_fits}
+use Rattle.code_ranges.proofs.Asked.{asked_fits}
 use Rattle.code_ranges.proofs.ExpressionRanges.{expression_ranged, effect_ranged}
-use Rattle.code_ranges.proofs.Rows.{LoopFits, space_mark, bare_mark, space_row, bare_row, short_is, free_is, place_is, leaving_fits, returning_fits, no_result_fits, no_value_fits, exit_fits, branch_fits, moved_fits, name_fits}
+use Rattle.code_ranges.proofs.Rows.{LoopFits, space_mark, bare_mark, space_row, bare_row, short_is, free_is, place_is, leaving_fits, returning_fits, no_result_fits, no_value_fits, exit_fits, test_fits, test_short, loop_fits, loop_short, branch_fits, moved_fits, name_fits}
 
 module _ (setting : Setting) (sound : SettingFits setting) where
   value_ranged : (mark : Mark) (free place : ℕ) (e : Expression) → is_short free ≡ true → ExpressionFits mark e → place + expression_size setting e < 2 ^ 32 → LinesFit (expression_code setting free mark place e)
@@ -138,28 +140,28 @@ module _ (setting : Setting) (sound : SettingFits setting) where
         (moved_fits (length es) inside.free (slot_of setting x) inside.mark s.empty s.handlers s.recording f.1.1 f.1.0)
     statement_ranged inside place (if_then c b rest) s f l p =
         let m = inside.mark in
+        let test = test_instrs (is_turned c) (test_place setting place c) (else_place setting inside place c b rest) in
         branch_fits
         m
-        (else_place setting inside place c b rest)
-        (value_code setting inside place c)
+        test
+        (value_code setting inside place (asked c))
         (block_code setting inside (then_place setting place c) b)
         (exit m rest (end_place setting inside place c b rest))
         (otherwise_code setting inside (else_place setting inside place c b rest) rest)
-        (space_mark m inside.free 1 s (omega arith))
-        (omega (arith, p))
-        (value_ranged m inside.free place c (free_is m inside.free s) f.0 (omega (arith, p)))
+        (space_row m inside.free 1 test s (omega arith) (test_short (is_turned c) (test_place setting place c) (else_place setting inside place c b rest)) (test_fits (is_turned c) (test_place setting place c) (else_place setting inside place c b rest) (omega arith) (omega (arith, p))))
+        (value_ranged m inside.free place (asked c) (free_is m inside.free s) (asked_fits m c f.0) (omega (arith, p)))
         (block_ranged inside (then_place setting place c) b s f.1 l (omega (arith, p)))
         (exit_fits m rest (end_place setting inside place c b rest) (bare_mark m inside.free s) (omega (arith, p)))
         (otherwise_ranged inside (else_place setting inside place c b rest) rest s f.2 l (omega (arith, p)))
     statement_ranged inside place (while_do c b) s f l p =
         let m = inside.mark in
         let again = place + 2 + block_size setting m.tries m.tries b in
-        let past = again + expression_size setting c + 2 in
+        let past = again + expression_size setting (asked c) + loop_size (is_turned c) in
         let jump = line m (I.Jump again) in
         let turn = line m I.Turn in
         let body = block_code setting (in_loop again past inside) (place + 2) b in
-        let test = value_code setting inside again c in
-        let end = I.JumpZero past ∷ I.Jump (place + 1) ∷ [] in
+        let test = value_code setting inside again (asked c) in
+        let end = loop_instrs (is_turned c) (place + 1) past in
         both_fit
         ((jump ∷ (turn ∷ body)) ++ test)
         (straight (raised 1 m) end)
@@ -175,8 +177,8 @@ module _ (setting : Setting) (sound : SettingFits setting) where
         body
         (line_fits m I.Turn (bare_mark m inside.free s) refl)
         (block_ranged (in_loop again past inside) (place + 2) b s f.1 (record { again = omega (arith, p); past = omega (arith, p) }) (omega (arith, p)))))
-        (value_ranged m inside.free again c (free_is m inside.free s) f.0 (omega (arith, p))))
-        (space_row m inside.free 1 end s (omega arith) (omega arith) (place_is past (omega (arith, p)), (place_is (place + 1) (omega (arith, p)), tt)))
+        (value_ranged m inside.free again (asked c) (free_is m inside.free s) (asked_fits m c f.0) (omega (arith, p))))
+        (space_row m inside.free 1 end s (omega arith) (loop_short (is_turned c) (place + 1) past) (loop_fits (is_turned c) (place + 1) past (omega (arith, p)) (omega (arith, p))))
     statement_ranged inside place (for_range x from to b) s f l p =
         let m = inside.mark in
         let turns = turns_place setting place from to in
@@ -294,16 +296,16 @@ module _ (setting : Setting) (sound : SettingFits setting) where
     otherwise_ranged inside place (else_do b) s f l p = block_ranged inside place b s f l p
     otherwise_ranged inside place (elif_then ln c b rest) s f l p =
         let m = inside.mark in
+        let test = test_instrs (is_turned c) (test_place setting place c) (else_place setting inside place c b rest) in
         branch_fits
         m
-        (else_place setting inside place c b rest)
-        (value_code setting inside place c)
+        test
+        (value_code setting inside place (asked c))
         (block_code setting inside (then_place setting place c) b)
         (exit m rest (end_place setting inside place c b rest))
         (otherwise_code setting inside (else_place setting inside place c b rest) rest)
-        (space_mark m inside.free 1 s (omega arith))
-        (omega (arith, p))
-        (value_ranged m inside.free place c (free_is m inside.free s) f.0 (omega (arith, p)))
+        (space_row m inside.free 1 test s (omega arith) (test_short (is_turned c) (test_place setting place c) (else_place setting inside place c b rest)) (test_fits (is_turned c) (test_place setting place c) (else_place setting inside place c b rest) (omega arith) (omega (arith, p))))
+        (value_ranged m inside.free place (asked c) (free_is m inside.free s) (asked_fits m c f.0) (omega (arith, p)))
         (block_ranged inside (then_place setting place c) b s f.1 l (omega (arith, p)))
         (exit_fits m rest (end_place setting inside place c b rest) (bare_mark m inside.free s) (omega (arith, p)))
         (otherwise_ranged inside (else_place setting inside place c b rest) rest s f.2 l (omega (arith, p)))

@@ -1,5 +1,5 @@
 -- What the parts of an expression need is there where the expression is ready.
-use Rattle.std.proofs.Common.{◌≡◌, ℕ, ◌+◌, ◌<◌, ◌≤◌, ◌^◌, true, length, ap, arith}
+use Rattle.std.proofs.Common.{◌≡◌, ℕ, ◌+◌, ◌<◌, ◌≤◌, ◌^◌, true, length, Some, None, refl, ap, arith}
 use Rattle.std.specs.Prelude.{Option}
 use Rattle.kern_syntax.specs.declared.expression.BinaryOperator.{BinaryOperator}
 use Rattle.kern_syntax.specs.declared.expression.Comparison.{Comparison}
@@ -8,13 +8,15 @@ use Rattle.kern_syntax.specs.Spellable.{IsSpellable}
 use Rattle.kern_syntax.specs.Tree.{Bytes, Expression, integer, true_literal, false_literal, variable, element, group, unary, binary, compare, negation, conjunction, disjunction, call, method, Arguments}
 use Rattle.kern_calls.specs.declared.calls.Operation.{Operation}
 use Rattle.kern_calls.specs.Calls.{builtin_named, method_named}
+use Rattle.kern_calls.specs.Types.{type_of}
 use Rattle.timeline_sem.specs.Expressions.{text_in}
 use Rattle.core_isa.specs.declared.code.Mark.{Mark}
 use Rattle.code_forms.specs.ExpressionCode.{numbers_in}
 use Rattle.code_forms.specs.Lines.{raised}
-use Rattle.code_forms.specs.Operations.{array_argument, method_instrs, takes_numbers}
+use Rattle.code_forms.specs.Operations.{array_argument, literal, method_instrs, negated, takes_numbers, unary_instrs}
 use Rattle.code_forms.specs.Setting.{Setting}
-use Rattle.code_forms.specs.Sizes.{expression_size, arguments_size}
+use Rattle.code_forms.specs.Sizes.{expression_size, arguments_size, unary_size}
+use Rattle.code_forms.proofs.Literals.{negated_is}
 use Rattle.code_ranges.specs.Heights.{expression_height}
 use Rattle.code_ranges.specs.Ready.{ExpressionFits, IsReady, IsReadyAlone, AreReady}
 use Rattle.code_ranges.specs.Room.{HasRoom}
@@ -72,6 +74,14 @@ part_fits m m' e part k r height tries rec spelled less =
       rec = omega (arith, r.rec, rec);
     }
 
+-- `-` and `~` are no shorter than their operand
+pub operand_short : (s : Setting) (op : UnaryOperator) (e : Expression) → expression_size s e ≤ expression_size s (unary op e)
+operand_short s op e = by_number (negated op (literal e)) refl
+  where
+    by_number : (o : Option ℕ) → negated op (literal e) ≡ o → expression_size s e ≤ unary_size o (expression_size s e) (length (unary_instrs op (type_of s.scope e)))
+    by_number (Some n) is = let one : expression_size s e ≡ 1 = ap (expression_size s) (negated_is op e n is).operand in omega (arith, one)
+    by_number None is = omega arith
+
 module _ (s : Setting) (m : Mark) (p : ℕ) where
   -- a part that stands first
   first_part : (e part : Expression) → IsReady s m p e → IsSpellable part → expression_height part ≤ expression_height e → expression_size s part ≤ expression_size s e → IsReady s m p part
@@ -85,7 +95,7 @@ module _ (s : Setting) (m : Mark) (p : ℕ) where
   element_index x i r = first_part (element x i) i r r.fits.spelled.1 (omega arith) (omega arith)
 
   pub unary_operand : (op : UnaryOperator) (e : Expression) → IsReady s m p (unary op e) → IsReady s m p e
-  unary_operand op e r = first_part (unary op e) e r r.fits.spelled (omega arith) (omega arith)
+  unary_operand op e r = first_part (unary op e) e r r.fits.spelled (omega arith) (operand_short s op e)
 
   pub not_operand : (e : Expression) → IsReady s m p (negation e) → IsReady s m p e
   not_operand e r = first_part (negation e) e r r.fits.spelled (omega arith) (omega arith)

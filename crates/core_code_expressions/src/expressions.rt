@@ -16,7 +16,7 @@ ghost use Rattle.core_code_names.specs.SettingOf.{setting_of};
 ghost use Rattle.core_code_expressions.specs.ReadyCalls.{IsReadyCall, IsReadyMethod};
 
 use crate::pieces::{
-    load_instr, put_and_end, put_and_test, put_filler, put_or_test, variable_type,
+    load_instr, negated, put_and_end, put_and_test, put_filler, put_or_test, variable_type,
 };
 use crate::sizes::expression_size;
 use core_code_lines::{put, raised};
@@ -71,6 +71,10 @@ pub fn put_expression(
         }
         Expr::Group(inner) => put_expression(lines, setting, free, mark, inner),
         Expr::Unary(operator, operand) => {
+            if let Some(number) = negated(*operator, operand) {
+                put(lines, mark, Instr::Const(-(number as i64)))?;
+                return Ok(literal_type(number));
+            }
             let kind = put_expression(lines, setting, free, mark, operand)?;
             put_unary(lines, raised(mark, 1), *operator, kind)?;
             Ok(kind)

@@ -4,10 +4,11 @@ ghost use Rattle.std.specs.Prelude.{◌≡◌, ◌+◌, ◌<◌, ◌^◌, ◌++�
 ghost use Rattle.kern_calls.specs.Calls.{look_up};
 ghost use Rattle.kern_calls.specs.Types.{type_of};
 ghost use Rattle.kern_syntax.specs.Tree.{variable};
+ghost use Rattle.kern_syntax.specs.TreeOf.{expression_of};
 ghost use Rattle.core_isa.specs.declared.instr.Instr.TheVariants as I;
 ghost use Rattle.code_forms.specs.ExpressionCode.{dropped, filled};
 ghost use Rattle.code_forms.specs.Lines.{line, raised};
-ghost use Rattle.code_forms.specs.Operations.{load_instr};
+ghost use Rattle.code_forms.specs.Operations.{literal, load_instr, negated};
 ghost use Rattle.code_forms.specs.Sizes.{unless, when};
 ghost use Rattle.core_code_names.specs.SettingOf.{setting_of};
 
@@ -15,6 +16,7 @@ use core_code_lines::{put, raised};
 use core_code_names::Setting;
 use core_isa::{CodeLine, Instr, Mark};
 use kern_calls::ValueType;
+use kern_syntax::{Expr, UnaryOperator};
 use std::alloc::AllocError;
 
 /// The type of a name of the function; int64 of another.
@@ -34,6 +36,26 @@ pub fn load_instr(setting: &Setting<'_>, name: &[u8]) -> Instr
     match setting.name_kind(name) {
         None | Some(ValueType::Array(_)) => Instr::Const(0),
         Some(_) => Instr::Load(setting.slot(name)),
+    }
+}
+
+/// The number of an expression that is an integer.
+pub fn literal(e: &Expr) -> Option<u64>
+    ensures { result ≡ literal (expression_of e.now) }
+{
+    match e {
+        Expr::Integer(value) => Some(*value),
+        _ => None,
+    }
+}
+
+/// The integer whose `-` is taken, where it is an integer's.
+pub fn negated(operator: UnaryOperator, operand: &Expr) -> Option<u64>
+    ensures { result ≡ negated operator (literal (expression_of operand.now)) }
+{
+    match operator {
+        UnaryOperator::Negate => literal(operand),
+        UnaryOperator::Invert => None,
     }
 }
 

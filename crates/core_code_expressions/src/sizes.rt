@@ -9,7 +9,7 @@ ghost use Rattle.code_forms.specs.Operations.{call_has_value};
 ghost use Rattle.code_forms.specs.Sizes.{arguments_size, call_size, expression_size, unless};
 ghost use Rattle.core_code_names.specs.SettingOf.{setting_of};
 
-use crate::pieces::{unless, variable_type};
+use crate::pieces::{negated, unless, variable_type};
 use core_code_names::Setting;
 use core_code_operations::{
     Callee, callee_of, comparison_size, method_has_value, method_named, method_size, method_type,
@@ -52,12 +52,13 @@ pub fn expression_size(setting: &Setting<'_>, e: &Expr) -> Measure
             kind: ValueType::Int64,
         },
         Expr::Group(inner) => expression_size(setting, inner),
-        Expr::Unary(_, operand) => {
-            let operand = expression_size(setting, operand);
-            Measure {
-                size: operand.size + wrapped_size(operand.kind),
-                kind: operand.kind,
-            }
+        Expr::Unary(operator, operand) => {
+            let Measure { size, kind } = expression_size(setting, operand);
+            let size = match negated(*operator, operand) {
+                Some(_) => 1,
+                None => size + wrapped_size(kind),
+            };
+            Measure { size, kind }
         }
         Expr::Binary(operator, left, right) => {
             let left = expression_size(setting, left);

@@ -6,8 +6,9 @@ ghost use Rattle.code_forms.specs.Sizes.{block_size, statement_size};
 ghost use Rattle.core_code_names.specs.SettingOf.{setting_of};
 
 use crate::simple::simple_size;
-use core_code_expressions::expression_size;
+use core_code_expressions::{asked_size, expression_size, is_turned};
 use core_code_names::Setting;
+use core_code_operations::{loop_size, test_size};
 use kern_syntax::{Block, Elif, Expr, Handler, StmtKind};
 
 /// How many instructions the code of a block has, under so many handlers, of which so many stood before the enclosing loop.
@@ -37,7 +38,10 @@ pub fn statement_size(setting: &Setting<'_>, tries: u32, kept: u32, statement: &
                 + else_size(setting, tries, kept, last)
         }
         StmtKind::While(condition, body) => {
-            block_size(setting, tries, tries, body) + expression_size(setting, condition).size + 4
+            block_size(setting, tries, tries, body)
+                + asked_size(setting, condition)
+                + loop_size(is_turned(condition))
+                + 2
         }
         StmtKind::ForTo(_, to, body) => {
             block_size(setting, tries, tries, body) + expression_size(setting, to).size + 15
@@ -98,7 +102,9 @@ pub fn branch_size(
     requires { tries + branch_size (setting_of setting.now) tries kept (expression_of condition.now) (block_of body.now) < 2 ^ 32 }
     ensures { result ≡ branch_size (setting_of setting.now) tries kept (expression_of condition.now) (block_of body.now) }
 {
-    expression_size(setting, condition).size + block_size(setting, tries, kept, body) + 1
+    asked_size(setting, condition)
+        + test_size(is_turned(condition))
+        + block_size(setting, tries, kept, body)
 }
 
 ghost use Rattle.std.specs.Prelude.{None, option_map};

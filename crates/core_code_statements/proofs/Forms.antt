@@ -8,11 +8,12 @@ use Rattle.kern_syntax.specs.TreeOf.{block_of, branches_of, else_of}
 use Rattle.core_isa.specs.declared.code.CodeLine.{CodeLine}
 use Rattle.core_isa.specs.declared.code.Mark.{Mark}
 use Rattle.core_isa.specs.declared.instr.Instr.TheVariants as I
+use Rattle.code_forms.specs.Conditions.{is_turned, asked, test_instrs}
 use Rattle.code_forms.specs.ExpressionCode.{expression_code}
 use Rattle.code_forms.specs.Lines.{line, raised, straight, with_recording}
 use Rattle.code_forms.specs.Setting.{Setting, index_of_text}
 use Rattle.code_forms.specs.Sizes.{expression_size, from_size, exit_size, statement_size, block_size, handlers_size, when}
-use Rattle.code_forms.specs.StatementCode.{Inside, keeping, in_loop, under, exit, then_place, else_place, end_place, for_begins, for_goes_on, value_code, second_code, from_code, statement_code, block_code, otherwise_code, handlers_code}
+use Rattle.code_forms.specs.StatementCode.{Inside, keeping, in_loop, under, exit, test_place, then_place, else_place, end_place, for_begins, for_goes_on, value_code, second_code, from_code, statement_code, block_code, otherwise_code, handlers_code}
 use Rattle.code_ranges.specs.ReadyStatements.{OtherwiseFits}
 use Rattle.core_code_sizes.specs.Parts.{branch_size, followed_size}
 use Rattle.core_code_statements.specs.Parts.{is_followed, branch_code, followed_code, turns_code, tried_code, tried_size}
@@ -83,7 +84,7 @@ module _ (setting : Setting) (inside : Inside) where
       let else_at = else_place setting inside (length l0) c b rest in
       let more : then_place setting (length l0) c + block_size setting inside.mark.tries inside.loop.tries b + when followed ≡ else_at = omega (arith, ap when same, when_followed rest) in
       let other : length l1 + exit_size setting rest ≡ else_at = omega (arith, long) in
-      let all = λ (j e p : ℕ). (l0 ++ (value_code setting inside (length l0) c ++ line (raised 1 inside.mark) (I.JumpZero j) ∷ block_code setting inside (then_place setting (length l0) c) b)) ++ (exit inside.mark rest e ++ otherwise_code setting inside p rest) in
+      let all = λ (j e p : ℕ). (l0 ++ (value_code setting inside (length l0) (asked c) ++ straight (raised 1 inside.mark) (test_instrs (is_turned c) (test_place setting (length l0) c) j) ++ block_code setting inside (then_place setting (length l0) c) b)) ++ (exit inside.mark rest e ++ otherwise_code setting inside p rest) in
       let put : l2 ≡ all (then_place setting (length l0) c + block_size setting inside.mark.tries inside.loop.tries b + when followed) end (length l1 + exit_size setting rest) = e2 ∙ ap (λ l. l ++ followed_code setting inside (length l1) end rest) e1 in
       put
       ∙ ap (λ j. all j end (length l1 + exit_size setting rest)) more

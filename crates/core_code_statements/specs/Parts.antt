@@ -3,10 +3,11 @@ use Rattle.std.specs.Prelude.{ℕ, ◌+◌, List, [], ◌∷◌, ◌++◌, Bool,
 use Rattle.kern_syntax.specs.Tree.{Bytes, Expression, Block, Otherwise, no_else, Handlers, no_handler, except_then}
 use Rattle.core_isa.specs.declared.code.CodeLine.{CodeLine}
 use Rattle.core_isa.specs.declared.instr.Instr.TheVariants as I
+use Rattle.code_forms.specs.Conditions.{is_turned, asked, test_instrs}
 use Rattle.code_forms.specs.Lines.{line, raised, straight, with_handler}
 use Rattle.code_forms.specs.Setting.{Setting}
 use Rattle.code_forms.specs.Sizes.{block_size, exit_size, expression_size, when}
-use Rattle.code_forms.specs.StatementCode.{Inside, keeping, in_loop, under, code_of_name, exit, then_place, for_begins, for_goes_on, value_code, second_code, block_code, otherwise_code}
+use Rattle.code_forms.specs.StatementCode.{Inside, keeping, in_loop, under, code_of_name, exit, test_place, then_place, for_begins, for_goes_on, value_code, second_code, block_code, otherwise_code}
 
 -- further branches follow, or an `else`
 abbrev pub is_followed : Otherwise → Bool
@@ -14,15 +15,17 @@ is_followed no_else = false
 is_followed rest = true
 
 module _ (setting : Setting) (inside : Inside) where
-  -- a branch, without the jump past what follows: its condition, its jump and its body
+  -- a branch, without the jump past what follows: what is asked for its condition, the test and its body
   abbrev pub branch_code : (place : ℕ) → Expression → Block → (followed : Bool) → List CodeLine
   branch_code place c b followed =
-      value_code setting inside place c
-      ++ line
+      value_code setting inside place (asked c)
+      ++ straight
       (raised 1 inside.mark)
-      (I.JumpZero
+      (test_instrs
+      (is_turned c)
+      (test_place setting place c)
       (then_place setting place c + block_size setting inside.mark.tries inside.loop.tries b + when followed))
-      ∷ block_code setting inside (then_place setting place c) b
+      ++ block_code setting inside (then_place setting place c) b
 
   -- what follows a branch, with the jump past it before it
   abbrev pub followed_code : (place end : ℕ) → Otherwise → List CodeLine

@@ -10,9 +10,10 @@ ghost use Rattle.core_code_simple.specs.InsideOf.{inside_of};
 ghost use Rattle.core_code_statements.specs.Parts.{branch_code, is_followed};
 
 use crate::blocks::put_block;
-use core_code_expressions::put_expression;
+use core_code_expressions::{is_turned, put_asked};
 use core_code_lines::{put, raised};
 use core_code_names::Setting;
+use core_code_operations::put_test;
 use core_code_simple::Inside;
 use core_code_sizes::branch_size;
 use core_isa::{CodeLine, Instr};
@@ -50,8 +51,8 @@ pub fn put_branch(
     let kept = u32::from(inside.enclosing.tries);
     let size = branch_size(setting, tries, kept, body, condition);
     let other = lines.len() as u32 + size + u32::from(followed);
-    put_expression(lines, setting, inside.free, inside.mark, condition)?;
-    put(lines, raised(inside.mark, 1), Instr::JumpZero(other))?;
+    put_asked(lines, setting, inside.free, inside.mark, condition)?;
+    put_test(lines, raised(inside.mark, 1), is_turned(condition), other)?;
     put_block(lines, setting, inside, body)
 }
 

@@ -10,9 +10,10 @@ ghost use Rattle.core_code_names.specs.SettingOf.{setting_of};
 ghost use Rattle.core_code_simple.specs.InsideOf.{inside_of};
 
 use crate::blocks::put_block;
-use core_code_expressions::{expression_size, put_expression};
+use core_code_expressions::{asked_size, is_turned, put_asked, put_expression};
 use core_code_lines::{put_all, raised};
 use core_code_names::Setting;
+use core_code_operations::{loop_size, put_loop_test};
 use core_code_simple::{Inside, LoopPlaces};
 use core_code_sizes::block_size;
 use core_isa::{CodeLine, Instr};
@@ -48,7 +49,8 @@ pub fn put_while(
 {
     let place = lines.len() as u32;
     let again = place + 2 + turn_size(setting, inside, body);
-    let past = again + expression_size(setting, condition).size + 2;
+    let turned = is_turned(condition);
+    let past = again + asked_size(setting, condition) + loop_size(turned);
     let tries = inside.mark.tries;
     let turn = Inside {
         enclosing: LoopPlaces { again, past, tries },
@@ -56,9 +58,8 @@ pub fn put_while(
     };
     put_all(lines, inside.mark, &[Instr::Jump(again), Instr::Turn])?;
     put_block(lines, setting, turn, body)?;
-    put_expression(lines, setting, inside.free, inside.mark, condition)?;
-    let ends = [Instr::JumpZero(past), Instr::Jump(place + 1)];
-    put_all(lines, raised(inside.mark, 1), &ends)
+    put_asked(lines, setting, inside.free, inside.mark, condition)?;
+    put_loop_test(lines, raised(inside.mark, 1), turned, place + 1, past)
 }
 
 ghost use Rattle.code_forms.specs.Lines.{raised, straight};
