@@ -2,8 +2,8 @@ mod AtTop
 pub mod Turned
 mod Growing
 mod Deciding
-mod Histories
-mod Steps
-mod Playing
-mod Whole
-mod Meanings
+pub mod Histories
+pub mod Steps
+pub mod Playing
+pub mod Whole
+pub mod Meanings

@@ -14,7 +14,7 @@ use Rattle.rtio_core.specs.declared.data.Act.TheVariants.{End}
 use Rattle.rtio_core.specs.declared.data.Config.{Config}
 use Rattle.rtio_core.specs.declared.data.Entry.{Entry}
 use Rattle.rtio_core.specs.Calls.{MayEnd, NoOtherWaits, ended}
-use Rattle.rtio_core.specs.Core.{CoreState, IsCore}
+use Rattle.rtio_core.specs.Core.{CoreState}
 use Rattle.rtio_core.specs.Entries.{last_at, open_session}
 use Rattle.rtio_core.specs.Lawful.{AreFitting, IsOpenFor}
 use Rattle.rtio_core.specs.Reply.{reply_to}
@@ -76,8 +76,8 @@ module _ (chair : ℕ) (s : Session) (asked : List Answered) (core : CoreState) 
   pub open-now : IsOpenFor chair core.history
   open-now = (s.of.rid, ap open_session has.history ∙ open-history chair s asked)
 
-  pub fitting-now : IsCore core → AreFitting (history_of chair s asked)
-  fitting-now known = subst AreFitting has.history known.fitting
+  pub fitting-now : AreFitting core.history → AreFitting (history_of chair s asked)
+  fitting-now fit = subst AreFitting has.history fit
 
   pub free-now : (request : Request) → NoOtherWaits core.waiting request
   free-now request = subst (λ (v : Option Waiting). NoOtherWaits v request) (sym has.waiting) tt
@@ -100,9 +100,9 @@ open-asking chair request core now sets (s, asked, asking) = open-now chair s as
 pub free-asking : (chair : ℕ) (request : Request) (core : CoreState) (now : Moment) (sets : List DataSet) → HasAsking chair request core now sets → NoOtherWaits core.waiting request
 free-asking chair request core now sets (s, asked, asking) = free-now chair s asked core sets asking.entries request
 
-pub formed-asking : (chair : ℕ) (request : Request) (core : CoreState) (now : Moment) (sets : List DataSet) → IsCore core → HasAsking chair request core now sets → IsTrue (is_well_formed request)
-formed-asking chair request core now sets known (s, asked, asking) =
-    asking.asks.well (fits-history chair s asked (request ∷ []) (fitting-now chair s asked core sets asking.entries known))
+pub formed-asking : (chair : ℕ) (request : Request) (core : CoreState) (now : Moment) (sets : List DataSet) → AreFitting core.history → HasAsking chair request core now sets → IsTrue (is_well_formed request)
+formed-asking chair request core now sets fit (s, asked, asking) =
+    asking.asks.well (fits-history chair s asked (request ∷ []) (fitting-now chair s asked core sets asking.entries fit))
 
 pub phase-asking : (chair : ℕ) (request : Request) (core : CoreState) (now : Moment) (sets : List DataSet) → HasAsking chair request core now sets → IsTrue (is_asking now.phase)
 phase-asking chair request core now sets (s, asked, asking) = asking.asking
@@ -206,7 +206,7 @@ ends-as config history asked (X.raised x) now outcome.Horizon is = absurd (cc)
 ends-as config history asked X.budget now outcome.Horizon is = absurd (cc)
 ends-as config history asked X.unanswered now outcome.Horizon is = absurd (cc)
 
-in-time : (config : Config) (end : MachineEnd) (how : Outcome) (at : ℕ) → outcome_of end ≡ Some how → IsEndInTime config how at
+pub in-time : (config : Config) (end : MachineEnd) (how : Outcome) (at : ℕ) → outcome_of end ≡ Some how → IsEndInTime config how at
 in-time config end outcome.Returned at is = tt
 in-time config end (outcome.Raised x) at is = tt
 in-time config end outcome.Budget at is = tt
@@ -222,9 +222,9 @@ prompt-end before (outcome.Raised x) at is = is
 prompt-end before outcome.Budget at is = is
 
 pub ended-leads : (chair : ℕ) (s : Session) (asked : List Answered) (old new : CoreState) (was now : Moment) (sets : List DataSet) (how : Outcome) (cursor : ℤ)
-    → IsCore old → now.code ≡ was.code → Advances was now (stop.Ended how) → IsUnderWay chair s asked old was sets → cursor ≡ now.machine.cursor → new ≡ ended old chair how cursor
+    → AreFitting old.history → now.code ≡ was.code → Advances was now (stop.Ended how) → IsUnderWay chair s asked old was sets → cursor ≡ now.machine.cursor → new ≡ ended old chair how cursor
     → LeadsTo chair s asked new now sets (Some how)
-ended-leads chair s asked old new was now sets how cursor known same stops way at is =
+ended-leads chair s asked old new was now sets how cursor fit same stops way at is =
     let ended' : HasEnded s.start (requests_of asked) (replies_of asked) how now = stops s.start (requests_of asked) (replies_of asked) way.stands in
     record {
       cursor = cursor;
@@ -240,7 +240,7 @@ ended-leads chair s asked old new was now sets how cursor known same stops way a
       count = refl;
       fit =
           subst (λ (requests : List Request). RepliesFit requests (replies_of asked)) (append-nil (requests_of asked))
-          (fits-history chair s asked [] (fitting-now chair s asked old sets way.entries known));
+          (fits-history chair s asked [] (fitting-now chair s asked old sets way.entries fit));
       numbers = way.entries.numbers;
       sets_are = way.entries.sets_are;
     }
@@ -275,9 +275,9 @@ may-end-never None = tt
 may-end-never (Some w) = refl
 
 pub never-leads : (chair : ℕ) (s : Session) (asked : List Answered) (request : Request) (old mid new : CoreState) (now : Moment) (sets more : List DataSet) (cursor : ℤ)
-    → IsCore old → IsNeverAnswered old request mid → more ≡ sets ++ option_to_list (set_by request) → IsAsking chair s asked request old now sets → cursor ≡ now.machine.cursor → new ≡ ended mid chair outcome.Horizon cursor
+    → AreFitting old.history → IsNeverAnswered old request mid → more ≡ sets ++ option_to_list (set_by request) → IsAsking chair s asked request old now sets → cursor ≡ now.machine.cursor → new ≡ ended mid chair outcome.Horizon cursor
     → LeadsTo chair s asked new now more (Some outcome.Horizon)
-never-leads chair s asked request old mid new now sets more cursor known never kept asking at is = record {
+never-leads chair s asked request old mid new now sets more cursor fit never kept asking at is = record {
   cursor = cursor;
   history = closes;
   config = ap (λ (c : CoreState). c.config) is ∙ config-mid;
@@ -288,7 +288,7 @@ never-leads chair s asked request old mid new now sets more cursor known never k
   runs = runs-asking s asked request now asking.code asking.asks;
   ends = (refl, at, (request, refl, none));
   count = refl;
-  fit = fits-history chair s asked (request ∷ []) (fitting-now chair s asked old sets asking.entries known);
+  fit = fits-history chair s asked (request ∷ []) (fitting-now chair s asked old sets asking.entries fit);
   numbers = asking.entries.numbers;
   sets_are =
       kept

@@ -1,5 +1,5 @@
 -- What a compiled kernel that was run leaves on a core.
-use Rattle.std.specs.Prelude.{ℕ, List, ◌++◌}
+use Rattle.std.specs.Prelude.{◌≡◌, ℕ, List, ◌++◌}
 use Rattle.rtio_core.specs.declared.data.Config.{Config}
 use Rattle.rtio_core.specs.declared.data.Entry.{Entry}
 use Rattle.rtio_core.specs.declared.data.StartOf.{StartOf}
@@ -12,8 +12,8 @@ use Rattle.kern_syntax.specs.Tree.{ProgramTree}
 use Rattle.core_session.specs.Sessions.{EndsAs, replies_of}
 use Rattle.kernel_session.specs.Meant.{account_of_meaning, meant, script_of}
 use Rattle.kernel_session.specs.Replays.{PlaysRecordings}
-use Rattle.lab_kernels.specs.Kernels.{KernelRun, entries_until_end}
-use Rattle.lab_kernels.specs.Runs.{HasRun}
+use Rattle.lab_kernels.specs.Kernels.{AreAskedAtTop, KernelRun, entries_until_end, session_entries}
+use Rattle.lab_kernels.specs.Runs.{HasRun, RunsCode}
 
 -- how the run of a session begins: at the cursor of the last end before it
 abbrev pub beginning_behind : (before : List Entry) → (units : ℕ) → KernelRun → Beginning
@@ -35,3 +35,12 @@ pub record MeansProgram (program : ProgramTree) (units chair : ℕ) (config : Co
 pub record RunsKernel (program : ProgramTree) (code : Code) (units chair : ℕ) (of : StartOf) (old new : CoreState) (result : KernelResult) : Type 0 where
   pub ran : HasRun code units chair of old new result
   pub means : MeansProgram program units chair old.config old.history ran.k
+
+-- a session of the chair is all that stands in the later history behind the earlier. It was started for this; each request stands at
+-- its top, and an end at the horizon there; and it is one of the code, and of the program's meaning
+pub record IsKernelSession (program : ProgramTree) (code : Code) (units chair : ℕ) (of : StartOf) (config : Config) (before after : List Entry) (k : KernelRun) : Type 0 where
+  pub of_is : k.of ≡ of
+  pub stands : after ≡ before ++ session_entries chair before k
+  pub at_top : AreAskedAtTop config before (session_entries chair before k)
+  pub runs : RunsCode code units chair config before k
+  pub means : MeansProgram program units chair config before k

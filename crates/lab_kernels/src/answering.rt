@@ -62,7 +62,7 @@ fn answer(
     let decided = ask_until_decided(alloc, core, who, request)?;
     match decided {
         Some(reply) => {
-            known(&reply);
+            has_number(&reply);
             cpu.reply(reply);
             Ok(None)
         }
@@ -90,8 +90,8 @@ fn end(
     core.end(alloc, who, outcome, cursor)
 }
 
-// Keeps the dataset that a request sets, behind the others.
-fn keep_set(alloc: Global, sets: &mut Vec<DataSet>, request: &Request) -> Result<(), AllocError>
+/// Keeps the dataset that a request sets, behind the others. The only error is want of memory.
+pub fn keep_set(alloc: Global, sets: &mut Vec<DataSet>, request: &Request) -> Result<(), AllocError>
     ensures { OnOk result (sets.new.items ≡ sets.old.items ++ option_to_list (set_by request.now)) }
 {
     if let Request::Data { name, value } = request {
@@ -101,8 +101,8 @@ fn keep_set(alloc: Global, sets: &mut Vec<DataSet>, request: &Request) -> Result
     Ok(())
 }
 
-// Reads the number in a reply, or the length of its recording, which is one of 64 bits.
-fn known(reply: &Reply)
+/// Reads the number in a reply, or the length of its recording, which is one of 64 bits.
+pub fn has_number(reply: &Reply)
     ensures { HasNumber reply.now }
 {
     match reply {

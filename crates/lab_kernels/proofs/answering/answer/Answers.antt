@@ -10,7 +10,7 @@ pub ask_until_decided-requires-clause-open : goal.ask_until_decided-requires-cla
 ask_until_decided-requires-clause-open c = open-asking c.args.who c.args.request c.args.core.now c.args.cpu.now c.args.sets.now.items c.requires
 
 pub ask_until_decided-requires-clause-formed : goal.ask_until_decided-requires-clause-formed
-ask_until_decided-requires-clause-formed c = formed-asking c.args.who c.args.request c.args.core.now c.args.cpu.now c.args.sets.now.items c.history-known.ensures.core c.requires
+ask_until_decided-requires-clause-formed c = formed-asking c.args.who c.args.request c.args.core.now c.args.cpu.now c.args.sets.now.items c.history-known.ensures.core.fitting c.requires
 
 pub ask_until_decided-requires-clause-free : goal.ask_until_decided-requires-clause-free
 ask_until_decided-requires-clause-free c = free-asking c.args.who c.args.request c.args.core.now c.args.cpu.now c.args.sets.now.items c.requires
@@ -22,7 +22,7 @@ pub returns-in-Some-clause-leads : goal.returns-in-Some-clause-leads
 returns-in-Some-clause-leads c = λ s asked asking.
     answered-leads c.args.who s asked c.args.request c.in-Some.reply c.args.core.now c.ask_until_decided.new.core c.args.cpu.now c.reply.new.self c.args.sets.now.items c.keep_set.new.sets.items
     (subst (λ (d : Option Reply). IsDecided c.args.core.now c.args.who c.args.request d c.ask_until_decided.new.core) c.in-Some.is c.in_ok-decided.ensures.decided)
-    c.known.ensures c.in_ok-keep_set.ensures c.reply.ensures.takes c.reply.ensures.code c.reply.ensures.phase asking
+    c.has_number.ensures c.in_ok-keep_set.ensures c.reply.ensures.takes c.reply.ensures.code c.reply.ensures.phase asking
 
 pub end-requires-clause-open : goal.end-requires-clause-open
 end-requires-clause-open c =
@@ -35,7 +35,7 @@ end-requires-clause-waiting c = may-end-never c.ask_until_decided.new.core.waiti
 
 pub returns-in_ok-end-in-None-clause-leads : goal.returns-in_ok-end-in-None-clause-leads
 returns-in_ok-end-in-None-clause-leads c = λ s asked asking.
-    never-leads c.args.who s asked c.args.request c.args.core.now c.ask_until_decided.new.core c.end.new.core c.args.cpu.now c.args.sets.now.items c.keep_set.new.sets.items _ c.history-known.ensures.core
+    never-leads c.args.who s asked c.args.request c.args.core.now c.ask_until_decided.new.core c.end.new.core c.args.cpu.now c.args.sets.now.items c.keep_set.new.sets.items _ c.history-known.ensures.core.fitting
     (subst (λ (d : Option Reply). IsDecided c.args.core.now c.args.who c.args.request d c.ask_until_decided.new.core) c.in-None.is c.in_ok-decided.ensures.decided)
     c.in_ok-keep_set.ensures asking refl c.in_ok-end-in-None.ensures.ok
 

@@ -36,7 +36,7 @@ end-requires-clause-waiting c = may-end-under-way c.args.who c.args.core.now c.a
 
 pub returns-in_ok-end-in-Ended-clause-leads : goal.returns-in_ok-end-in-Ended-clause-leads
 returns-in_ok-end-in-Ended-clause-leads c = λ s asked way.
-    ended-leads c.args.who s asked c.args.core.now c.end.new.core c.args.cpu.now c.advance.new.self c.args.sets.now.items c.in-Ended.outcome _ c.history-known.ensures.core c.advance.ensures.code
+    ended-leads c.args.who s asked c.args.core.now c.end.new.core c.args.cpu.now c.advance.new.self c.args.sets.now.items c.in-Ended.outcome _ c.history-known.ensures.core.fitting c.advance.ensures.code
     (subst (λ (h : Stop). Advances c.args.cpu.now c.advance.new.self h) c.in-Ended.is c.in_ok-stop.ensures.stops)
     way
     refl

@@ -1,0 +1,5 @@
+pub mod Alone
+pub mod Chairs
+pub mod Holdings
+pub mod Kernels
+pub mod Sessions

@@ -1,0 +1,95 @@
+// How a request is asked at a desk.
+
+ghost use Rattle.std.specs.Prelude.{◌≡◌, IfOk, IsTrue, OnErr};
+ghost use Rattle.rtio_types.specs.Requests.{is_well_formed};
+ghost use Rattle.rtio_core.specs.Core.{IsCore};
+ghost use Rattle.rtio_core.specs.Lawful.{IsOpenFor};
+ghost use Rattle.desk_kernels.specs.Chairs.{core_entries};
+ghost use Rattle.desk_kernels.specs.Holdings.{GoesOn, IsDecidedAt, IsReady, IsTurnAt, IsTurnOrEnd};
+
+use desk::{Chair, Desk};
+use lab_kernels::{Turn, ask_stopped};
+use rtio_core::Core;
+use rtio_types::{Outcome, Reply, Request};
+use std::alloc::{AllocError, Global};
+use std::sync::Wait;
+use std::thread;
+
+/// Asks a request of the chair's open session until it is decided; between two holdings the desk is free. None where it isn't
+/// decided at the horizon, and then the session has ended there, with this cursor (mu).
+pub(crate) fn ask_until_decided<R: Wait>(
+    rt: &R,
+    alloc: Global,
+    desk: &Desk<Core>,
+    chair: &mut Chair<Core>,
+    request: Request,
+    cursor: i64,
+) -> Result<Option<Reply>, AllocError>
+    requires ready { IsReady desk.now chair.old }
+    requires open { IsOpenFor chair.old.number (core_entries chair.old.seen) }
+    requires formed { IsTrue (is_well_formed request) }
+    ensures goes { GoesOn desk.now chair.old chair.new }
+    ensures decided { IfOk result (λ reply. IsDecidedAt desk.now.fixed chair.old request cursor reply chair.new) }
+{
+    let mut asked = request;
+    for _ in rt.forever() {
+        match ask_once(rt, alloc, desk, chair, asked, cursor)? {
+            Turn::Replied(reply) => return Ok(Some(reply)),
+            Turn::Again(back) => asked = back,
+            Turn::Over => return Ok(None),
+        }
+        thread::yield_now();
+    }
+    unreachable!()
+}
+
+// One holding: the core ticks until it is stopped, 4,096 cycles at most, and is asked where it stopped. At the horizon the session
+// ends where the request isn't decided.
+fn ask_once<R: Wait>(
+    rt: &R,
+    alloc: Global,
+    desk: &Desk<Core>,
+    chair: &mut Chair<Core>,
+    request: Request,
+    cursor: i64,
+) -> Result<Turn, AllocError>
+    requires ready { IsReady desk.now chair.old }
+    requires open { IsOpenFor chair.old.number (core_entries chair.old.seen) }
+    requires formed { IsTrue (is_well_formed request) }
+    ensures goes { GoesOn desk.now chair.old chair.new }
+    ensures turn { IfOk result (λ turn. IsTurnAt desk.now.fixed chair.old request cursor turn chair.new) }
+{
+    let who = chair.number();
+    let mut held = desk.take(rt, chair);
+    let core = held.value();
+    let _known = core.history();
+    let turn = ask_or_end(alloc, core, who, request, cursor);
+    desk.put(chair, held);
+    turn
+}
+
+// Asks the core that is held, and ends the session where the request isn't decided at the horizon.
+fn ask_or_end(
+    alloc: Global,
+    core: &mut Core,
+    who: u32,
+    request: Request,
+    cursor: i64,
+) -> Result<Turn, AllocError>
+    requires open { IsOpenFor who core.old.history }
+    requires formed { IsTrue (is_well_formed request) }
+    ensures known { IsCore core.new }
+    ensures config { core.new.config ≡ core.old.config }
+    ensures turn { IfOk result (λ turn. IsTurnOrEnd core.old who request cursor turn core.new) }
+    ensures err { OnErr result (core.new.history ≡ core.old.history) }
+{
+    let turn = match ask_stopped(alloc, core, who, request) {
+        Ok(Turn::Over) => match core.end(alloc, who, Outcome::Horizon, cursor) {
+            Ok(()) => Ok(Turn::Over),
+            Err(_) => Err(AllocError),
+        },
+        other => other,
+    };
+    let _after = core.history();
+    turn
+}
