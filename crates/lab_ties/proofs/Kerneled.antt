@@ -1,16 +1,32 @@
 -- What a kernel leaves on a core is a session of its step.
-use Rattle.std.proofs.Common.{[], ◌++◌, sym, ap, subst, ◌∙◌, append-nil}
+use Rattle.std.proofs.Common.{ℕ, [], ◌++◌, sym, ap, subst, ◌∙◌, append-nil}
 use Rattle.rtio_core.specs.declared.data.StartOf.{StartOf}
+use Rattle.rtio_core.specs.Core.{CoreState}
+use Rattle.sched_state.specs.declared.entry.KernelResult.{KernelResult}
 use Rattle.sched_state.specs.Lawful.{found_step}
-use Rattle.lab_kernels.specs.Kernels.{KernelRun, session_entries}
+use Rattle.core_isa.specs.declared.code.Code.{Code}
+use Rattle.kern_syntax.specs.Tree.{ProgramTree}
+use Rattle.lab_kernels.specs.Kernels.{session_entries}
+use Rattle.lab_kernels.specs.Meanings.{IsKernelSession, RunsKernel}
 use Rattle.lab_kits.specs.Kits.{program_in}
 use Rattle.lab_ties.proofs.Lasting.{for-step-last}
 use Rattle.lab_ties.specs.Laws.{KernelsAreSteps}
 use Rattle.lab_ties.specs.Steps.{IsForStep, start_of}
 
+-- a kernel that was run on a core has left one session of it there
+pub kernel-session : (program : ProgramTree) (code : Code) (units chair : ℕ) (of : StartOf) (old new : CoreState) (result : KernelResult)
+    → (r : RunsKernel program code units chair of old new result)
+    → IsKernelSession program code units chair of old.config old.history new.history r.ran.k
+kernel-session program code units chair of old new result r = record {
+  of_is = r.ran.adds.of_is;
+  stands = r.ran.adds.history;
+  at_top = r.ran.adds.at_top;
+  runs = r.ran.runs;
+  means = r.means;
+}
+
 pub kernels-are-steps : KernelsAreSteps
-kernels-are-steps session sched more rid place pipeline chair function name args kit old new told (run, found, in_pipeline, step_is, kit_is) f does ran =
-    let k : KernelRun = ran.ran.k in
+kernels-are-steps session sched more rid place pipeline chair function name args kit config before after k (run, found, in_pipeline, step_is, kit_is) f does s =
     let first : IsForStep session (program_in kit) sched pipeline (start_of kit function args rid place) = record {
       run = run;
       found = found;
@@ -27,15 +43,15 @@ kernels-are-steps session sched more rid place pipeline chair function name args
       program = program_in kit;
       for_step =
           for-step-last session (program_in kit) sched more pipeline k.of
-          (subst (λ (o : StartOf). IsForStep session (program_in kit) sched pipeline o) (sym ran.ran.adds.of_is) first);
+          (subst (λ (o : StartOf). IsForStep session (program_in kit) sched pipeline o) (sym s.of_is) first);
       is_session = record {
-        before = old.history;
+        before = before;
         after = [];
-        stands = ran.ran.adds.history ∙ sym (append-nil (old.history ++ session_entries chair old.history k));
-        at_top = ran.ran.adds.at_top;
-        means = ran.means;
+        stands = s.stands ∙ sym (append-nil (before ++ session_entries chair before k));
+        at_top = s.at_top;
+        means = s.means;
         code = kit.compiled.1;
         does = does;
-        counts = ran.ran.runs;
+        counts = s.runs;
       };
     }

@@ -1,3 +1,4 @@
 pub mod Lasting
 pub mod Tied
+pub mod Beginning
 pub mod Kerneled

@@ -3,11 +3,9 @@ use Rattle.std.specs.Prelude.{◌≡◌, ℕ, List, [], ◌∷◌, ◌++◌, ℤ
 use Rattle.rtio_core.specs.declared.data.Act.{Act}
 use Rattle.rtio_core.specs.declared.data.Config.{Config}
 use Rattle.rtio_core.specs.declared.data.Entry.{Entry}
-use Rattle.rtio_core.specs.Core.{CoreState}
 use Rattle.exp_model.specs.declared.session.Session.{Session}
 use Rattle.exp_model.specs.declared.step.HostStep.TheVariants.{Kernel}
 use Rattle.kern_syntax.specs.Tree.{Bytes}
-use Rattle.sched_state.specs.declared.entry.KernelResult.{KernelResult}
 use Rattle.sched_state.specs.declared.entry.SchedAct.{SchedAct}
 use Rattle.sched_state.specs.declared.entry.SchedEntry.{SchedEntry}
 use Rattle.sched_state.specs.Lawful.{state_after}
@@ -15,7 +13,7 @@ use Rattle.sched_core.specs.declared.answer.Job.TheVariants.{Step}
 use Rattle.sched_core.specs.Calls.{IsJobFor}
 use Rattle.code_law.specs.DoesAs.{DoesAs}
 use Rattle.lab_kernels.specs.Kernels.{KernelRun, session_entries}
-use Rattle.lab_kernels.specs.Meanings.{RunsKernel}
+use Rattle.lab_kernels.specs.Meanings.{IsKernelSession}
 use Rattle.lab_kits.specs.declared.kit.Kit.{Kit}
 use Rattle.lab_kits.specs.Calls.{HasFunction}
 use Rattle.lab_kits.specs.Kits.{KitCall, KitText, kit_source, program_in}
@@ -44,17 +42,17 @@ TiesGrow =
     → IsKernelStep session config sched pipeline chair now k
     → AreTied session pipeline config chair sched (reports ++ more) now (core_acts chair now)
 
--- where a step that runs a kernel was taken with its kit, and the kernel ran on a core with the session's budget, that is a
--- session of the step; and it stays one while the scheduler's history grows
+-- where a step that runs a kernel was taken with its kit, and a session on a core is one of the kernel, with the budget of the
+-- laboratory's session, that is a session of the step; and it stays one while the scheduler's history grows
 abbrev pub KernelsAreSteps : Type 0
 KernelsAreSteps =
     (session : Session) (sched more : List SchedEntry) (rid place pipeline chair function : ℕ)
-    → (name : Bytes) (args : List ℤ) (kit : Kit) (old new : CoreState) (told : KernelResult)
+    → (name : Bytes) (args : List ℤ) (kit : Kit) (config : Config) (before after : List Entry) (k : KernelRun)
     → IsJobFor kit_source KitText KitCall session (state_after session sched) (Step rid place pipeline (Kernel name args) kit)
     → HasFunction (program_in kit) name args function
     → DoesAs (program_in kit) kit.compiled.1
-    → (ran : RunsKernel (program_in kit) kit.compiled.1 session.budget chair (start_of kit function args rid place) old new told)
-    → IsKernelStep session old.config (sched ++ more) pipeline chair new.history ran.ran.k
+    → IsKernelSession (program_in kit) kit.compiled.1 session.budget chair (start_of kit function args rid place) config before after k
+    → IsKernelStep session config (sched ++ more) pipeline chair after k
 
 -- a source that was judged rightly stays so
 abbrev pub JudgementsLast : Type 0

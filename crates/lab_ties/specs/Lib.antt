@@ -3,4 +3,5 @@ pub mod Settings
 pub mod Steps
 pub mod Ties
 pub mod Judged
+pub mod Finished
 pub mod Laws

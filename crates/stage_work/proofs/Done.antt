@@ -36,17 +36,17 @@ all-get P (y ∷ ys) zero x all at = let is : y ≡ x = cc in subst P is all.0
 all-get P (y ∷ ys) (suc n) x all at = all-get P ys n x all.1 at
 
 -- a kernel's step calls a function that the kit has
-pub has-call : (sched : SchedValue) (at : StepAt) (step : HostStep) (kit : Kit) → HasTaken (step_job at step kit) sched → HasCall KitCall kit step
-has-call sched at step kit taken =
+pub has-call : (who : ℕ) (sched : SchedValue) (at : StepAt) (step : HostStep) (kit : Kit) → HasTaken who (step_job at step kit) sched → HasCall KitCall kit step
+has-call who sched at step kit taken =
     let is = taken.is in
     all-get (HasCall KitCall kit) _ at.pos step is.4.calls (sym (ap (found_step sched.session at.pos) is.1) ∙ is.3)
 
 -- the run's pipeline has a core
-pub has-core : (session : Session) (sched : SchedValue) (cores : List CoreState) (at : StepAt) (step : HostStep) (kit : Kit)
+pub has-core : (who : ℕ) (session : Session) (sched : SchedValue) (cores : List CoreState) (at : StepAt) (step : HostStep) (kit : Kit)
     → sched.session ≡ session → IsSched sched
-    → HasTaken (step_job at step kit) sched → length cores ≡ length session.pipelines → at.pipeline < length cores
-has-core session sched cores at step kit same known taken count =
-    let there = run-there sched _ known taken.flies in
+    → HasTaken who (step_job at step kit) sched → length cores ≡ length session.pipelines → at.pipeline < length cores
+has-core who session sched cores at step kit same known taken count =
+    let there = run-there sched _ known (who, taken.flies) in
     let is = taken.is in
     let both : Some there.0 ≡ Some is.0 = sym there.1 ∙ is.1 in
     let one : there.0 ≡ is.0 = cc in
@@ -73,9 +73,9 @@ done-has-result units kit at (Sum name into) old new (Some result) done = absurd
 done-has-result units kit at (Submit asked) old new None done = tt
 done-has-result units kit at (Submit asked) old new (Some result) done = absurd done
 
-pub ran-fits : (units : ℕ) (sched : SchedValue) (at : StepAt) (step : HostStep) (kit : Kit) (old new : CoreState) (ran : Option KernelResult)
-    → HasTaken (step_job at step kit) sched → HasDone units kit at step old new ran → RanFits sched at.rid at.pos ran
-ran-fits units sched at step kit old new ran taken done = λ other found.
+pub ran-fits : (who units : ℕ) (sched : SchedValue) (at : StepAt) (step : HostStep) (kit : Kit) (old new : CoreState) (ran : Option KernelResult)
+    → HasTaken who (step_job at step kit) sched → HasDone units kit at step old new ran → RanFits sched at.rid at.pos ran
+ran-fits who units sched at step kit old new ran taken done = λ other found.
     let both : Some step ≡ Some other = sym taken.is.3 ∙ found in
     let one : step ≡ other = cc in
     let R : HostStep → Type 0 = λ s. HasResult (Some s) ran in

@@ -47,24 +47,24 @@ no-report job (act.Jumped clock) free e pipeline = refl
 no-report job act.Halted free e pipeline = refl
 
 -- leaves the cores
-pub cores-reported : (session : Session) (job : JobName) (old new : SchedValue) (cores : List CoreState) → IsNoStep job → HasReported job old new
+pub cores-reported : (session : Session) (job : JobName) (old new : SchedValue) (cores : List CoreState) → IsNoStep job → HasReported 0 job old new
     → AreServedCores session old.history cores → AreServedCores session new.history cores
 cores-reported session job old new cores free r served =
     let H : SchedValue → Type 0 = λ v. AreServedCores session v.history cores in
     subst H (sym r.entry) (cores-over session old.history (entry_of 0 r.act ∷ []) cores (no-report job r.act free r.reports) served)
 
-pub has-analyzed : (rid : ℕ) (old new : SchedValue) → new ≡ with_entry 0 (act.Analyzed rid) old → HasReported (name.Analyze rid) old new
+pub has-analyzed : (rid : ℕ) (old new : SchedValue) → new ≡ with_entry 0 (act.Analyzed rid) old → HasReported 0 (name.Analyze rid) old new
 has-analyzed rid old new is = record { act = act.Analyzed rid; entry = is; reports = refl; judged = tt }
 
-pub has-stepped : (at : StepAt) (old new : SchedValue) → HasStepped at old new → HasReported (name.Step at.rid at.pos) old new
+pub has-stepped : (at : StepAt) (old new : SchedValue) → HasStepped 0 at old new → HasReported 0 (name.Step at.rid at.pos) old new
 has-stepped at old new stepped = record { act = told old at stepped.0; entry = stepped.1; reports = refl; judged = tt }
 
 pub step-reported : {E : Type 0} (r : Result (Unit {0}) E) (j : Job Kit) (at : StepAt) (step : HostStep) (kit : Kit) (old new : SchedValue)
     → j ≡ step_job at step kit
-    → OnOk r (HasStepped at old new) → OnOk r (HasReported (name_of j) old new)
+    → OnOk r (HasStepped 0 at old new) → OnOk r (HasReported 0 (name_of j) old new)
 step-reported r j at step kit old new is told =
-    let R : Job Kit → Type 0 = λ job. HasReported (name_of job) old new in
-    on_ok_weaker {P = HasStepped at old new} {Q = HasReported (name_of j) old new} r (λ stepped. subst R (sym is) (has-stepped at old new stepped)) told
+    let R : Job Kit → Type 0 = λ job. HasReported 0 (name_of job) old new in
+    on_ok_weaker {P = HasStepped 0 at old new} {Q = HasReported 0 (name_of j) old new} r (λ stepped. subst R (sym is) (has-stepped at old new stepped)) told
 
 -- ---- what the scheduler answers
 
@@ -74,16 +74,16 @@ module _ (session : Session) (old : SchedValue) (cores : List CoreState) (served
   as-given other is = let A : Next Kit → Type 0 = λ n. AnswersNext kit_source KitText KitCall 0 old n new in subst A is answers
 
   -- a job: it is in flight then, with what belongs to it, and the cores are as they were
-  pub next-taken : (job : Job Kit) → given ≡ next.Job job → IsServedSched session (in_flight (name_of job) ∷ []) new
+  pub next-taken : (job : Job Kit) → given ≡ next.Job job → IsServedSched session (in_flight 0 (name_of job) ∷ []) new
   next-taken job is =
       let a = as-given (next.Job job) is in
-      let S : SchedValue → Type 0 = λ v. IsServedSched session (in_flight (name_of job) ∷ []) v in
+      let S : SchedValue → Type 0 = λ v. IsServedSched session (in_flight 0 (name_of job) ∷ []) v in
       subst S (sym a.2) (taken-served session (jumped 0 a.1 old) (name_of job) (jumped-served session [] old a.1 served.scheduler))
 
-  pub next-job : (job : Job Kit) → given ≡ next.Job job → HasTaken job new
+  pub next-job : (job : Job Kit) → given ≡ next.Job job → HasTaken 0 job new
   next-job job is =
       let a = as-given (next.Job job) is in
-      subst (HasTaken job) (sym a.2) (has-taken session (jumped 0 a.1 old) job (jumped-served session [] old a.1 served.scheduler) a.3)
+      subst (HasTaken 0 job) (sym a.2) (has-taken session (jumped 0 a.1 old) job (jumped-served session [] old a.1 served.scheduler) a.3)
 
   pub next-cores : (job : Job Kit) → given ≡ next.Job job → AreServedCores session new.history cores
   next-cores job is =
@@ -94,7 +94,7 @@ module _ (session : Session) (old : SchedValue) (cores : List CoreState) (served
       (cores-jumped session old.history a.1 cores served.each_core))
 
   -- its report leaves fewer jobs than there were
-  pub next-fewer : (job : Job Kit) → given ≡ next.Job job → IsSched new → (later : SchedValue) → HasReported (name_of job) new later → IsSched later
+  pub next-fewer : (job : Job Kit) → given ≡ next.Job job → IsSched new → (later : SchedValue) → HasReported 0 (name_of job) new later → IsSched later
       → jobs_left_at later < jobs_left_at old
   next-fewer job is known later r after =
       let a = as-given (next.Job job) is in fewer-left old new later a.1 (name_of job) a.2 known r after

@@ -1,13 +1,13 @@
--- Reports of the job in flight: it is the worker's own, and nothing but want of memory refuses its report.
-use Rattle.std.proofs.Common.{◌≡◌, ℕ, List, [], ◌∷◌, ◌++◌, refl, sym, ap, subst, ◌∙◌}
+-- Reports of a job in flight: it is the chair's own, and nothing but want of memory refuses its report.
+use Rattle.std.proofs.Common.{◌≡◌, ℕ, List, refl, sym, ap, subst, ◌∙◌}
 use Rattle.std.specs.Prelude.{Option, Some, None}
 use Rattle.exp_runs.specs.declared.run.Run.{Run}
 use Rattle.exp_runs.specs.Keys.{run_of}
 use Rattle.exp_model.specs.declared.session.Session.{Session}
-use Rattle.sched_state.specs.declared.entry.Flight.{Flight}
 use Rattle.sched_state.specs.declared.entry.JobName.{JobName}
 use Rattle.sched_state.specs.State.{SchedState, rid_of}
 use Rattle.sched_laws.specs.Workers.{RunStands}
+use Rattle.sched_laws.proofs.Flights.{one-chair}
 use Rattle.sched_laws.proofs.Standing.{flying-stand}
 use Rattle.sched_core.specs.declared.answer.Why.{Why}
 use Rattle.sched_core.specs.declared.answer.Why.TheVariants as why
@@ -15,36 +15,17 @@ use Rattle.sched_core.specs.Calls.{HasJob, IsWhy, KitFits, TookIt}
 use Rattle.sched_core.specs.Scheds.{IsSched, SchedValue, sched_state, source_of_run}
 use Rattle.lab_kits.specs.declared.kit.Kit.{Kit}
 use Rattle.lab_kits.specs.Kits.{IsKitOf, KitCall, KitText, kit_source}
-use Rattle.stage_work.specs.Jobs.{FliesAlone, HasKit, in_flight}
+use Rattle.stage_work.specs.Jobs.{Flies, HasKit}
 
--- where one job is in flight alone, whoever has a job has that
-only-flight : (flying : List Flight) (mine : Flight) (chair : ℕ) (job : JobName) → flying ≡ mine ∷ []
-    → (before after : List Flight) → flying ≡ before ++ record { chair = chair; job = job } ∷ after → chair ≡ mine.chair
-only-flight flying mine chair job is [] after at = ap first (sym at ∙ is)
-  where
-    first : List Flight → ℕ
-    first [] = 0
-    first (f ∷ fs) = f.chair
-only-flight flying mine chair job is (x ∷ xs) after at = absurd (no xs (ap rest (sym at ∙ is)))
-  where
-    rest : List Flight → List Flight
-    rest [] = []
-    rest (f ∷ fs) = fs
-
-    no : (ys : List Flight) → ys ++ record { chair = chair; job = job } ∷ after ≡ [] → ⊥
-    no [] e = absurd (cc)
-    no (y ∷ ys) e = absurd (cc)
-
-pub took-own : (sched : SchedValue) (job : JobName) → FliesAlone job sched → TookIt (sched_state sched) 0 job
-took-own sched job flies = λ chair other. only-flight (sched_state sched).flying (in_flight job) chair job flies other.0 other.1 other.2
-
-pub has-own : (sched : SchedValue) (job : JobName) → FliesAlone job sched → HasJob (sched_state sched) job
-has-own sched job flies = (0, ([], [], flies))
+-- of a run no other chair has a job in flight
+pub took-own : (sched : SchedValue) (who : ℕ) (job : JobName) → IsSched sched → Flies who job sched → TookIt (sched_state sched) who job
+took-own sched who job is flies = λ chair other.
+    (one-chair sched.session sched.history who chair job job is.session is.lawful flies other refl).0
 
 -- its run is there
-pub run-there : (sched : SchedValue) (job : JobName) → IsSched sched → FliesAlone job sched
+pub run-there : (sched : SchedValue) (job : JobName) → IsSched sched → HasJob (sched_state sched) job
     → (run : Run) × (run_of (sched_state sched).runs (rid_of job) ≡ Some run) × RunStands sched.session (sched_state sched) job run
-run-there sched job is flies = flying-stand sched.session sched.history 0 job is.session is.lawful ([], [], flies)
+run-there sched job is has = flying-stand sched.session sched.history has.0 job is.session is.lawful has.1
 
 -- the kit is one for the run that has the number
 pub kit-fits : (sched : SchedValue) (rid : ℕ) (kit : Kit) → HasKit sched rid kit → KitFits kit_source KitText KitCall sched rid kit
@@ -76,16 +57,16 @@ only-memory session state job run None why.Memory has found own is = refl
 only-memory session state job run (Some source) why.Memory has found own is = refl
 
 -- so a report is refused for want of memory, with a kit of the run or without one
-pub memory-with-kit : (sched : SchedValue) (job : JobName) (kit : Kit) (w : Why) → FliesAlone job sched → HasKit sched (rid_of job) kit
+pub memory-with-kit : (sched : SchedValue) (job : JobName) (kit : Kit) (w : Why) → HasJob (sched_state sched) job → HasKit sched (rid_of job) kit
     → IsWhy sched.session (sched_state sched) job (Some (kit_source kit)) w → w ≡ why.Memory
 memory-with-kit sched job kit w flies has is =
-    only-memory sched.session (sched_state sched) job has.0 (Some (kit_source kit)) w (has-own sched job flies) has.1 has.2.same is
+    only-memory sched.session (sched_state sched) job has.0 (Some (kit_source kit)) w flies has.1 has.2.same is
 
-pub memory-alone : (sched : SchedValue) (job : JobName) (w : Why) → FliesAlone job sched → IsSched sched
+pub memory-alone : (sched : SchedValue) (job : JobName) (w : Why) → HasJob (sched_state sched) job → IsSched sched
     → IsWhy sched.session (sched_state sched) job None w → w ≡ why.Memory
 memory-alone sched job w flies known is =
     let run = run-there sched job known flies in
-    only-memory sched.session (sched_state sched) job run.0 None w (has-own sched job flies) run.1 tt is
+    only-memory sched.session (sched_state sched) job run.0 None w flies run.1 tt is
 
 -- a run that is there is found
 pub not-there : (found : Option Run) (runs others : List Run) (rid : ℕ) (run : Run) → found ≡ None → found ≡ run_of runs rid → runs ≡ others

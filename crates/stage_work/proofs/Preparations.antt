@@ -11,14 +11,14 @@ use Rattle.sched_core.specs.Scheds.{SchedValue, sched_state}
 use Rattle.lab_kits.specs.Accepted.{IsAccepted}
 use Rattle.stage_work.specs.Jobs.{HasReported}
 
-module _ (session : Session) (old new : SchedValue) (rid : ℕ) (run : Run) (same : old.session ≡ session)
+module _ (who : ℕ) (session : Session) (old new : SchedValue) (rid : ℕ) (run : Run) (same : old.session ≡ session)
     (found : run_of (sched_state old).runs rid ≡ Some run) where
-  pub has-prepared : IsAccepted session run → new ≡ with_entry 0 (Prepared rid) old → HasReported (Prepare rid) old new
+  pub has-prepared : IsAccepted session run → new ≡ with_entry who (Prepared rid) old → HasReported who (Prepare rid) old new
   has-prepared accepted is =
       let A : Session → Type 0 = λ s. IsAccepted s run in
       record { act = Prepared rid; entry = is; reports = refl; judged = (run, found, subst A (sym same) accepted) }
 
-  pub has-refused : (IsAccepted session run → ⊥) → new ≡ with_entry 0 (SourceRefused rid) old → HasReported (Prepare rid) old new
+  pub has-refused : (IsAccepted session run → ⊥) → new ≡ with_entry who (SourceRefused rid) old → HasReported who (Prepare rid) old new
   has-refused refused is =
       let A : Session → Type 0 = λ s. IsAccepted s run in
       record { act = SourceRefused rid; entry = is; reports = refl; judged = (run, found, λ accepted. refused (subst A same accepted)) }

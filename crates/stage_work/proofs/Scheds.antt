@@ -70,7 +70,7 @@ jumped-served session flying sched (clock ∷ clocks) served =
     (jumped-served session flying (with_entry 0 (act.Jumped clock) sched) clocks
     (pushed-served session flying flying sched (act.Jumped clock) served refl tt flies))
 
-took-flies : (session : Session) (chair : ℕ) (taken : JobName) (state : SchedState)
+pub took-flies : (session : Session) (chair : ℕ) (taken : JobName) (state : SchedState)
     → (after_act session chair (act.Took taken) state).flying ≡ state.flying ++ record { chair = chair; job = taken } ∷ []
 took-flies session chair (name.Prepare rid) state = refl
 took-flies session chair (name.Step rid place) state = refl
@@ -78,14 +78,14 @@ took-flies session chair (name.Analyze rid) state = refl
 
 -- and a job was taken
 pub taken-served : (session : Session) (sched : SchedValue) (taken : JobName) → IsServedSched session [] sched
-    → IsServedSched session (in_flight taken ∷ []) (with_entry 0 (act.Took taken) sched)
+    → IsServedSched session (in_flight 0 taken ∷ []) (with_entry 0 (act.Took taken) sched)
 taken-served session sched taken served =
-    pushed-served session [] (in_flight taken ∷ []) sched (act.Took taken) served refl tt
+    pushed-served session [] (in_flight 0 taken ∷ []) sched (act.Took taken) served refl tt
     (ap (λ (s : SchedState). s.flying) (state-pushed sched.session sched.history (entry_of 0 (act.Took taken)))
-    ∙ (took-flies sched.session 0 taken (sched_state sched) ∙ ap (λ (fs : List Flight). fs ++ in_flight taken ∷ []) served.flying_is))
+    ∙ (took-flies sched.session 0 taken (sched_state sched) ∙ ap (λ (fs : List Flight). fs ++ in_flight 0 taken ∷ []) served.flying_is))
 
 -- what belongs to a job lasts in longer histories
-job-lasts : (session : Session) (history more : List SchedEntry) (j : Job Kit) → IsJobFor kit_source KitText KitCall session (state_after session history) j
+pub job-lasts : (session : Session) (history more : List SchedEntry) (j : Job Kit) → IsJobFor kit_source KitText KitCall session (state_after session history) j
     → IsJobFor kit_source KitText KitCall session (state_after session (history ++ more)) j
 job-lasts session history more (job.Prepare rid source) (run, found, made) =
     let later = stay session history more rid run found in
@@ -104,25 +104,25 @@ job-lasts session history more (job.Step rid place pipeline step kit) (run, foun
 job-lasts session history more (job.Analyze rid) is = tt
 
 pub has-taken : (session : Session) (sched : SchedValue) (j : Job Kit) → IsServedSched session [] sched
-    → IsJobFor kit_source KitText KitCall sched.session (sched_state sched) j → HasTaken j (with_entry 0 (act.Took (name_of j)) sched)
+    → IsJobFor kit_source KitText KitCall sched.session (sched_state sched) j → HasTaken 0 j (with_entry 0 (act.Took (name_of j)) sched)
 has-taken session sched j served is = record {
-  flies = (taken-served session sched (name_of j) served).flying_is;
+  flies = ([], [], (taken-served session sched (name_of j) served).flying_is);
   is = job-lasts sched.session sched.history (entry_of 0 (act.Took (name_of j)) ∷ []) j is;
 }
 
 -- ---- reporting it
 
-left-alone : (taken : JobName) → left_flying (Some taken) (in_flight taken ∷ []) ≡ []
+left-alone : (taken : JobName) → left_flying (Some taken) (in_flight 0 taken ∷ []) ≡ []
 left-alone taken = let yes : (rid_of taken == rid_of taken) ≡ true = eq-eqb (rid_of taken) (rid_of taken) refl in rw yes refl
 
 -- the job isn't in flight any more, and nothing else is
-lands-alone : (chair : ℕ) (a : SchedAct) (taken : JobName) → reported a ≡ Some taken → flying_after chair a (in_flight taken ∷ []) ≡ []
+lands-alone : (chair : ℕ) (a : SchedAct) (taken : JobName) → reported a ≡ Some taken → flying_after chair a (in_flight 0 taken ∷ []) ≡ []
 lands-alone chair (act.Took other) taken e = absurd (cc)
-lands-alone chair (act.Prepared rid) taken e = ap (λ (r : Option JobName). left_flying r (in_flight taken ∷ [])) e ∙ left-alone taken
+lands-alone chair (act.Prepared rid) taken e = ap (λ (r : Option JobName). left_flying r (in_flight 0 taken ∷ [])) e ∙ left-alone taken
 lands-alone chair (act.Stepped rid place pipeline clock result word) taken e =
-    ap (λ (r : Option JobName). left_flying r (in_flight taken ∷ [])) e ∙ left-alone taken
-lands-alone chair (act.Analyzed rid) taken e = ap (λ (r : Option JobName). left_flying r (in_flight taken ∷ [])) e ∙ left-alone taken
-lands-alone chair (act.SourceRefused rid) taken e = ap (λ (r : Option JobName). left_flying r (in_flight taken ∷ [])) e ∙ left-alone taken
+    ap (λ (r : Option JobName). left_flying r (in_flight 0 taken ∷ [])) e ∙ left-alone taken
+lands-alone chair (act.Analyzed rid) taken e = ap (λ (r : Option JobName). left_flying r (in_flight 0 taken ∷ [])) e ∙ left-alone taken
+lands-alone chair (act.SourceRefused rid) taken e = ap (λ (r : Option JobName). left_flying r (in_flight 0 taken ∷ [])) e ∙ left-alone taken
 lands-alone chair (act.Jumped clock) taken e = absurd (cc)
 lands-alone chair act.Halted taken e = absurd (cc)
 
@@ -135,8 +135,8 @@ no-halt (act.SourceRefused rid) taken e = refl
 no-halt (act.Jumped clock) taken e = refl
 no-halt act.Halted taken e = absurd (cc)
 
-pub reported-served : (session : Session) (taken : JobName) (old new : SchedValue) → IsServedSched session (in_flight taken ∷ []) old
-    → HasReported taken old new → IsSched new → IsServedSched session [] new
+pub reported-served : (session : Session) (taken : JobName) (old new : SchedValue) → IsServedSched session (in_flight 0 taken ∷ []) old
+    → HasReported 0 taken old new → IsSched new → IsServedSched session [] new
 reported-served session taken old new served r is =
     let S : SchedValue → Type 0 = λ v. IsServedSched session [] v in
     let last : SchedEntry = entry_of 0 r.act in
@@ -147,7 +147,7 @@ reported-served session taken old new served r is =
     let J : Session → Type 0 = λ s. IsJudged s old.history r.act in
     let judged : IsJudged session (old.history ++ last ∷ []) r.act =
     judgements-last session old.history (last ∷ []) r.act (subst J served.session_is r.judged) in
-    subst S (sym r.entry) (pushed-served session (in_flight taken ∷ []) [] old r.act served (no-halt r.act taken r.reports) judged flies)
+    subst S (sym r.entry) (pushed-served session (in_flight 0 taken ∷ []) [] old r.act served (no-halt r.act taken r.reports) judged flies)
 
 -- ---- the jobs that are left
 
@@ -179,7 +179,7 @@ count-one a taken e =
     whole ∙ ap (λ (r : Option JobName). cond (is_some r) 1 0 + count_by is_report []) e
 
 -- reporting it takes one away
-one-less : (taken : JobName) (old new : SchedValue) → HasReported taken old new → IsSched new → jobs_left_at new < jobs_left_at old
+one-less : (taken : JobName) (old new : SchedValue) → HasReported 0 taken old new → IsSched new → jobs_left_at new < jobs_left_at old
 one-less taken old new r is =
     let known : IsSched (with_entry 0 r.act old) = subst IsSched r.entry is in
     let L : SchedValue → Type 0 = λ v. jobs_left_at v < jobs_left_at old in
@@ -187,7 +187,7 @@ one-less taken old new r is =
     (less-by _ _ _ (use-up old.session old.history (entry_of 0 r.act ∷ []) known.session known.lawful) (count-one r.act taken r.reports))
 
 pub fewer-left : (sched old new : SchedValue) (clocks : List ℕ) (taken : JobName) → old ≡ with_entry 0 (act.Took taken) (jumped 0 clocks sched)
-    → IsSched old → HasReported taken old new → IsSched new → jobs_left_at new < jobs_left_at sched
+    → IsSched old → HasReported 0 taken old new → IsSched new → jobs_left_at new < jobs_left_at sched
 fewer-left sched old new clocks taken same was r is =
     let M : SchedValue → Type 0 = λ v. jobs_left_at v ≤ jobs_left_at sched in
     let most : jobs_left_at old ≤ jobs_left_at sched = subst M (sym same) (none-added sched clocks taken (subst IsSched same was)) in

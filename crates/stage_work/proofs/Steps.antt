@@ -20,7 +20,7 @@ use Rattle.code_law.specs.DoesAs.{DoesAs}
 use Rattle.lab_kernels.specs.Kernels.{KernelRun, result_of}
 use Rattle.lab_kits.specs.declared.kit.Kit.{Kit}
 use Rattle.lab_kits.specs.Kits.{KitCall, KitText, kit_source, program_in}
-use Rattle.lab_ties.proofs.Kerneled.{kernels-are-steps}
+use Rattle.lab_ties.proofs.Kerneled.{kernel-session, kernels-are-steps}
 use Rattle.lab_ties.specs.Ties.{report_on, reports_of}
 use Rattle.stage_work.proofs.Cores.{core-after-kernel, core-over, set-at}
 use Rattle.stage_work.specs.declared.stepping.StepAt.{StepAt}
@@ -36,7 +36,7 @@ told sched at ran =
     Stepped at.rid at.pos (found_pipeline (run_of (sched_state sched).runs at.rid)) ((sched_state sched).clock + 1) ran
     (step_effect sched.session at.rid at.pos ran (sched_state sched)).word
 
-module _ (sched : SchedValue) (at : StepAt) (step : HostStep) (kit : Kit) (taken : HasTaken (step_job at step kit) sched) where
+module _ (who : ℕ) (sched : SchedValue) (at : StepAt) (step : HostStep) (kit : Kit) (taken : HasTaken who (step_job at step kit) sched) where
   in-pipeline : found_pipeline (run_of (sched_state sched).runs at.rid) ≡ at.pipeline
   in-pipeline = ap found_pipeline taken.is.1 ∙ taken.is.2
 
@@ -48,7 +48,7 @@ module _ (sched : SchedValue) (at : StepAt) (step : HostStep) (kit : Kit) (taken
       ne_eqb (found_pipeline (run_of (sched_state sched).runs at.rid)) other (λ same. apart (sym same ∙ in-pipeline)) in
       rw away refl
 
-  one-report : (result : KernelResult) (k : KernelRun) (of : StartOf) → k.of ≡ of → of.rid ≡ at.rid → of.pos ≡ at.pos → result ≡ result_of k
+  pub one-report : (result : KernelResult) (k : KernelRun) (of : StartOf) → k.of ≡ of → of.rid ≡ at.rid → of.pos ≡ at.pos → result ≡ result_of k
       → reports_of at.pipeline (told sched at (Some result) ∷ []) ≡ report_on k ∷ []
   one-report result k of is rid place tells =
       let here : (found_pipeline (run_of (sched_state sched).runs at.rid) == at.pipeline) ≡ true =
@@ -79,7 +79,8 @@ module _ (sched : SchedValue) (at : StepAt) (step : HostStep) (kit : Kit) (taken
           let one = one-report result r.ran.k _ r.ran.adds.of_is refl refl r.ran.told in
           core-after-kernel session at.pipeline sched.history (told sched at (Some result)) _ old new r.ran.k one r.ran.adds
           (kernels-are-steps session sched.history (entry_of 0 (told sched at (Some result)) ∷ []) at.rid at.pos at.pipeline 0 function name args
-          kit old new result (subst J same is) f does r)
+          kit old.config old.history new.history r.ran.k (subst J same is) f does
+          (kernel-session (program_in kit) kit.compiled.1 session.budget 0 _ old new result r))
           served
       by-step Pause None is done = unchanged done
       by-step Pause (Some result) is done = absurd done

@@ -37,6 +37,6 @@ pub record ChangesAt (pipeline : ℕ) (Changes : CoreState → CoreState → Typ
   pub leaves : now ≡ slice_set cores pipeline new
   pub so : Changes old new
 
--- the step was reported, with or without a result
-abbrev pub HasStepped : StepAt → SchedValue → SchedValue → Type 0
-HasStepped at old new = (ran : Option KernelResult) × (new ≡ stepped 0 at.rid at.pos ran old)
+-- the chair has reported the step, with or without a result
+abbrev pub HasStepped : (who : ℕ) → StepAt → SchedValue → SchedValue → Type 0
+HasStepped who at old new = (ran : Option KernelResult) × (new ≡ stepped who at.rid at.pos ran old)

@@ -9,4 +9,5 @@ mod serving;
 mod stepping;
 
 pub use lab_kits::{Gate, Kit, OpenGate, Place, PrepareEnd, prepare};
+pub use reporting::{report_analyzed, report_prepared, report_refused, report_step, run_in_flight};
 pub use serving::serve;

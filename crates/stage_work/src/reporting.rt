@@ -1,78 +1,111 @@
-// Reports of the job in flight.
+// Reports of a job in flight, by the chair that took it. Jobs of other runs may be in flight too.
 
-ghost use Rattle.std.specs.Prelude.{◌≡◌, OnErr, OnOk};
+ghost use Rattle.std.specs.Prelude.{◌≡◌, OnErr, OnOk, Some};
+ghost use Rattle.exp_runs.specs.Keys.{run_of};
 ghost use Rattle.sched_state.specs.declared.entry.JobName.TheVariants as name;
 ghost use Rattle.sched_state.specs.declared.entry.SchedAct.TheVariants as act;
 ghost use Rattle.sched_core.specs.declared.answer.Why.TheVariants.{Memory};
-ghost use Rattle.sched_core.specs.Calls.{RanFits, stepped, with_entry};
-ghost use Rattle.stage_work.specs.Jobs.{FliesAlone, HasKit};
+ghost use Rattle.sched_core.specs.Calls.{HasJob, RanFits, stepped, with_entry};
+ghost use Rattle.sched_core.specs.Scheds.{sched_state};
+ghost use Rattle.stage_work.specs.Jobs.{Flies, HasKit};
 
+use exp_runs::Run;
 use lab_kits::Kit;
 use sched_core::{KernelResult, Sched, Why};
 use std::alloc::{AllocError, Global};
 
-/// Reports that a run was prepared, and hands its kit over.
+/// Reports for chair `who`, which took the job, that a run was prepared, and hands its kit over. The only error is want of memory, and
+/// then nothing was reported.
 pub fn report_prepared(
     alloc: Global,
     sched: &mut Sched<Kit>,
+    who: u32,
     rid: u64,
     kit: Kit,
 ) -> Result<(), AllocError>
-    requires flies { FliesAlone (name.Prepare rid) sched.old }
+    requires flies { Flies who (name.Prepare rid) sched.old }
     requires kit { HasKit sched.old rid kit }
-    ensures ok { OnOk result (sched.new ≡ with_entry 0 (act.Prepared rid) sched.old) }
-    ensures err { OnErr result (sched.new ≡ sched.old) }
-{
-    match sched.prepared(alloc, 0, rid, kit) {
-        Ok(()) => Ok(()),
-        Err(refused) => Err(want_of_memory(refused.why)),
-    }
-}
-
-/// Reports that a run's source was refused.
-pub fn report_refused(alloc: Global, sched: &mut Sched<Kit>, rid: u64) -> Result<(), AllocError>
-    requires { FliesAlone (name.Prepare rid) sched.old }
-    ensures ok { OnOk result (sched.new ≡ with_entry 0 (act.SourceRefused rid) sched.old) }
+    ensures ok { OnOk result (sched.new ≡ with_entry who (act.Prepared rid) sched.old) }
     ensures err { OnErr result (sched.new ≡ sched.old) }
 {
     let _known = sched.history();
-    match sched.failed(alloc, 0, rid) {
+    match sched.prepared(alloc, who, rid, kit) {
         Ok(()) => Ok(()),
         Err(refused) => Err(want_of_memory(refused.why)),
     }
 }
 
-/// Reports a step of a run with its result, if it is a kernel's, and hands the run's kit back.
+/// Reports for chair `who`, which took the preparation, that a run's source was refused. The only error is want of memory, and then
+/// nothing was reported.
+pub fn report_refused(
+    alloc: Global,
+    sched: &mut Sched<Kit>,
+    who: u32,
+    rid: u64,
+) -> Result<(), AllocError>
+    requires { Flies who (name.Prepare rid) sched.old }
+    ensures ok { OnOk result (sched.new ≡ with_entry who (act.SourceRefused rid) sched.old) }
+    ensures err { OnErr result (sched.new ≡ sched.old) }
+{
+    let _known = sched.history();
+    match sched.failed(alloc, who, rid) {
+        Ok(()) => Ok(()),
+        Err(refused) => Err(want_of_memory(refused.why)),
+    }
+}
+
+/// Reports for chair `who`, which took the job, a step of a run, with its result if it is a kernel's, and hands the run's kit back. The
+/// only error is want of memory, and then nothing was reported.
 pub fn report_step(
     alloc: Global,
     sched: &mut Sched<Kit>,
+    who: u32,
     rid: u64,
     pos: u32,
     kit: Kit,
     ran: Option<KernelResult>,
 ) -> Result<(), AllocError>
-    requires flies { FliesAlone (name.Step rid pos) sched.old }
+    requires flies { Flies who (name.Step rid pos) sched.old }
     requires kit { HasKit sched.old rid kit }
     requires ran { RanFits sched.old rid pos ran }
-    ensures ok { OnOk result (sched.new ≡ stepped 0 rid pos ran sched.old) }
+    ensures ok { OnOk result (sched.new ≡ stepped who rid pos ran sched.old) }
     ensures err { OnErr result (sched.new ≡ sched.old) }
 {
-    match sched.step_done(alloc, 0, rid, pos, kit, ran) {
+    let _known = sched.history();
+    match sched.step_done(alloc, who, rid, pos, kit, ran) {
         Ok(()) => Ok(()),
         Err(refused) => Err(want_of_memory(refused.why)),
     }
 }
 
-/// Reports that a run is to be analyzed now.
-pub fn report_analyzed(alloc: Global, sched: &mut Sched<Kit>, rid: u64) -> Result<(), AllocError>
-    requires { FliesAlone (name.Analyze rid) sched.old }
-    ensures ok { OnOk result (sched.new ≡ with_entry 0 (act.Analyzed rid) sched.old) }
+/// Reports for chair `who`, which took the job, that a run is to be analyzed now. The only error is want of memory, and then nothing was
+/// reported.
+pub fn report_analyzed(
+    alloc: Global,
+    sched: &mut Sched<Kit>,
+    who: u32,
+    rid: u64,
+) -> Result<(), AllocError>
+    requires { Flies who (name.Analyze rid) sched.old }
+    ensures ok { OnOk result (sched.new ≡ with_entry who (act.Analyzed rid) sched.old) }
     ensures err { OnErr result (sched.new ≡ sched.old) }
 {
     let _known = sched.history();
-    match sched.analyzed(alloc, 0, rid) {
+    match sched.analyzed(alloc, who, rid) {
         Ok(()) => Ok(()),
         Err(refused) => Err(want_of_memory(refused.why)),
+    }
+}
+
+/// The run whose preparation is in flight.
+pub fn run_in_flight(sched: &Sched<Kit>, rid: u64) -> Run
+    requires { HasJob (sched_state sched.now) (name.Prepare rid) }
+    ensures { run_of (sched_state sched.now).runs rid ≡ Some result }
+{
+    let _known = sched.history();
+    match sched.runs().get(rid) {
+        Some(run) => *run,
+        None => unreachable!(),
     }
 }
 

@@ -84,9 +84,9 @@ fn do_job<G: Gate>(
     job: Job<Kit>,
 ) -> Result<(), AllocError>
     requires session { sched.old.session ≡ session.now }
-    requires taken { HasTaken job sched.old }
+    requires taken { HasTaken 0 job sched.old }
     requires cores { AreServedCores session.now sched.old.history cores.old }
-    ensures reports { OnOk result (HasReported (name_of job) sched.old sched.new) }
+    ensures reports { OnOk result (HasReported 0 (name_of job) sched.old sched.new) }
     ensures cores { OnOk result (AreServedCores session.now sched.new.history cores.new) }
     ensures err { OnErr result (sched.new ≡ sched.old) }
     ensures left { OnErr result (AreLeftCores session.now cores.new) }
@@ -103,6 +103,6 @@ fn do_job<G: Gate>(
             let at = StepAt { rid, pos, pipeline };
             do_step(alloc, sched, cores, session, gate, at, step, kit)
         }
-        Job::Analyze { rid } => report_analyzed(alloc, sched, rid),
+        Job::Analyze { rid } => report_analyzed(alloc, sched, 0, rid),
     }
 }

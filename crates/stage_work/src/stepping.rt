@@ -42,9 +42,9 @@ pub fn do_step<G: Gate>(
     kit: Kit,
 ) -> Result<(), AllocError>
     requires session { sched.old.session ≡ session.now }
-    requires taken { HasTaken (step_job at step kit) sched.old }
+    requires taken { HasTaken 0 (step_job at step kit) sched.old }
     requires cores { AreServedCores session.now sched.old.history cores.old }
-    ensures told { OnOk result (HasStepped at sched.old sched.new) }
+    ensures told { OnOk result (HasStepped 0 at sched.old sched.new) }
     ensures cores { OnOk result (AreServedCores session.now sched.new.history cores.new) }
     ensures err { OnErr result (sched.new ≡ sched.old) }
     ensures left { OnErr result (AreLeftCores session.now cores.new) }
@@ -52,7 +52,7 @@ pub fn do_step<G: Gate>(
     let _known = sched.history();
     let _does = kit.compiled.code();
     let ran = run_step_at(alloc, cores, session, gate, &kit, at, step)?;
-    report_step(alloc, sched, at.rid, at.pos, kit, ran)
+    report_step(alloc, sched, 0, at.rid, at.pos, kit, ran)
 }
 
 // Does a step on the core of its pipeline, if it is a kernel's.

@@ -13,20 +13,20 @@ use Rattle.stage_work.proofs.serving.do_job.Goals as goal
 
 pub do_preparation-requires-clause-flies : goal.do_preparation-requires-clause-flies
 do_preparation-requires-clause-flies g c =
-    let T : Job Kit → Type 0 = λ j. HasTaken j c.args.sched.now in
+    let T : Job Kit → Type 0 = λ j. HasTaken 0 j c.args.sched.now in
     (subst T c.in-Prepare.is c.requires.taken).flies
 
 pub do_step-requires-clause-taken : goal.do_step-requires-clause-taken
-do_step-requires-clause-taken g c = let T : Job Kit → Type 0 = λ j. HasTaken j c.args.sched.now in subst T c.in-Step.is c.requires.taken
+do_step-requires-clause-taken g c = let T : Job Kit → Type 0 = λ j. HasTaken 0 j c.args.sched.now in subst T c.in-Step.is c.requires.taken
 
 pub report_analyzed-requires : goal.report_analyzed-requires
 report_analyzed-requires g c =
-    let T : Job Kit → Type 0 = λ j. HasTaken j c.args.sched.now in
+    let T : Job Kit → Type 0 = λ j. HasTaken 0 j c.args.sched.now in
     (subst T c.in-Analyze.is c.requires.taken).flies
 
 pub returns-in-Prepare-clause-reports : goal.returns-in-Prepare-clause-reports
 returns-in-Prepare-clause-reports g c =
-    let R : Job Kit → Type 0 = λ j. OnOk c.do_preparation.result (HasReported (name_of j) c.args.sched.now c.do_preparation.new.sched) in
+    let R : Job Kit → Type 0 = λ j. OnOk c.do_preparation.result (HasReported 0 (name_of j) c.args.sched.now c.do_preparation.new.sched) in
     subst R (sym c.in-Prepare.is) c.do_preparation.ensures.reports
 
 pub returns-in-Prepare-clause-cores : goal.returns-in-Prepare-clause-cores
@@ -46,7 +46,7 @@ returns-in-Step-clause-reports g c =
 
 pub returns-in-Analyze-clause-reports : goal.returns-in-Analyze-clause-reports
 returns-in-Analyze-clause-reports g c =
-    let R : Job Kit → Type 0 = λ j. HasReported (name_of j) c.args.sched.now c.report_analyzed.new.sched in
+    let R : Job Kit → Type 0 = λ j. HasReported 0 (name_of j) c.args.sched.now c.report_analyzed.new.sched in
     on_ok_weaker c.report_analyzed.result
     (λ is. subst R (sym c.in-Analyze.is) (has-analyzed c.in-Analyze.rid c.args.sched.now c.report_analyzed.new.sched is))
     c.report_analyzed.ensures.ok

@@ -10,11 +10,11 @@ use Rattle.stage_work.proofs.Steps.{cores-after-step}
 use Rattle.stage_work.proofs.stepping.do_step.Goals as goal
 
 pub run_step_at-requires-clause-call : goal.run_step_at-requires-clause-call
-run_step_at-requires-clause-call g c = has-call c.args.sched.now c.args.at c.args.step c.args.kit c.requires.taken
+run_step_at-requires-clause-call g c = has-call 0 c.args.sched.now c.args.at c.args.step c.args.kit c.requires.taken
 
 pub run_step_at-requires-clause-there : goal.run_step_at-requires-clause-there
 run_step_at-requires-clause-there g c =
-    has-core c.args.session.now c.args.sched.now c.args.cores.now c.args.at c.args.step c.args.kit
+    has-core 0 c.args.session.now c.args.sched.now c.args.cores.now c.args.at c.args.step c.args.kit
     c.requires.session c.history-known.ensures.sched c.requires.taken c.requires.cores.count
 
 pub run_step_at-requires-clause-free : goal.run_step_at-requires-clause-free
@@ -35,7 +35,7 @@ report_step-requires-clause-kit g c = let is = c.requires.taken.is in (is.0, is.
 pub report_step-requires-clause-ran : goal.report_step-requires-clause-ran
 report_step-requires-clause-ran g c =
     let changes = c.in_ok-ran.ensures.done in
-    ran-fits _ c.args.sched.now c.args.at c.args.step c.args.kit changes.old changes.new c.in_ok-ran.ran c.requires.taken changes.so
+    ran-fits 0 _ c.args.sched.now c.args.at c.args.step c.args.kit changes.old changes.new c.in_ok-ran.ran c.requires.taken changes.so
 
 pub returns-clause-told : goal.returns-clause-told
 returns-clause-told g c = on_ok_weaker c.report_step.result (λ is. (c.in_ok-ran.ran, is)) c.report_step.ensures.ok
@@ -47,7 +47,7 @@ returns-clause-cores g c =
     let does = subst (DoesAs (program_in c.args.kit)) c.code-does.ensures.kept c.code-does.ensures.does in
     on_ok_weaker c.report_step.result
     (λ is. subst S (sym is)
-    (cores-after-step c.args.sched.now c.args.at c.args.step c.args.kit c.requires.taken c.args.session.now c.requires.session does
+    (cores-after-step 0 c.args.sched.now c.args.at c.args.step c.args.kit c.requires.taken c.args.session.now c.requires.session does
     c.args.cores.now c.run_step_at.new.cores c.in_ok-ran.ran
     c.requires.cores c.in_ok-ran.ensures.done))
     c.report_step.ensures.ok

@@ -2,7 +2,7 @@ use Rattle.std.proofs.Common.{ap}
 use Rattle.std.specs.Option.{option_copied}
 use Rattle.sched_state.specs.declared.entry.JobName.TheVariants.{Prepare}
 use Rattle.stage_work.proofs.Own.{not-there, run-there}
-use Rattle.stage_work.proofs.preparing.run_in_preparation.Goals as goal
+use Rattle.stage_work.proofs.reporting.run_in_flight.Goals as goal
 
 -- the run of a job in flight is there
 pub unreachable-requires : goal.unreachable-requires
