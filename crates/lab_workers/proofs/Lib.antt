@@ -1,0 +1,11 @@
+pub mod Entries
+pub mod Holdings
+pub mod Taken
+pub mod Turning
+pub mod Telling
+pub mod Resting
+pub mod Kerneled
+pub mod Waiting
+pub mod Doing
+pub mod Halted
+pub mod Rounds

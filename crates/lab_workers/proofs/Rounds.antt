@@ -1,0 +1,114 @@
+-- A worker whose fields are known, in a round.
+use Rattle.std.proofs.Common.{◌≡◌, ◌≢◌, ℕ, List, length, false, refl, sym, ap, subst, ◌∙◌, inl, inr}
+use Rattle.std.specs.Prelude.{◌⊎◌, IsTrue, Option, Some, None, slice_get, slice_set}
+use Rattle.std.proofs.lemmas.List.{length-set}
+use Rattle.desk.specs.Seated.{Opened}
+use Rattle.desk_rule.specs.Histories.{Each}
+use Rattle.desk_rule.proofs.Prefixes.{prefix_same}
+use Rattle.rtio_core.specs.declared.data.Config.{Config}
+use Rattle.exp_model.specs.declared.session.Session.{Session}
+use Rattle.sched_state.specs.Lawful.{halted_by, state_after}
+use Rattle.sched_state.specs.Picks.{is_over}
+use Rattle.stage_work.proofs.Cores.{set-at}
+use Rattle.desk_kernels.specs.Chairs.{CoreChair, IsAt, IsSameChair}
+use Rattle.lab_workers.specs.declared.desks.Desks.{Desks}
+use Rattle.lab_workers.specs.declared.tasks.Turn.{Turn}
+use Rattle.lab_workers.specs.declared.worker.WorkEnd.{WorkEnd}
+use Rattle.lab_workers.specs.declared.worker.WorkEnd.TheVariants.{Finished, Memory, Stopped}
+use Rattle.lab_workers.specs.Idling.{AreAt, HaveWaited}
+use Rattle.lab_workers.specs.Rounds.{GoesOn, IsEnd, IsEndIf, KeepsRest}
+use Rattle.lab_workers.specs.Turns.{Follows, HasTurned, PutsQuietly}
+use Rattle.lab_workers.specs.Workers.{IsFree, IsWorkerAt, SchedChair, WorkerValue, sched_entries}
+use Rattle.lab_workers.proofs.Resting.{each-get, each-set, goes-sched, goes-trans, keeps-quiet, keeps-trans}
+use Rattle.lab_workers.proofs.Waiting.{goes-waited, keeps-waited}
+
+-- the same chair still has the number, and holds nothing
+pub free-follows : (n : ℕ) (c e : SchedChair) → IsFree n c → Follows c e → IsFree n e
+free-follows n c e free follows = (follows.same.1 ∙ free.0, follows.same.2)
+
+pub free-core : (n : ℕ) (cores : List CoreChair) (pipeline : ℕ) (was now : CoreChair) → Each (IsFree n) cores → slice_get cores pipeline ≡ Some was
+    → IsSameChair was now → Each (IsFree n) (slice_set cores pipeline now)
+free-core n cores pipeline was now free found same =
+    each-set (IsFree n) cores pipeline now free (same.1 ∙ (each-get (IsFree n) cores pipeline was free found).0, same.2)
+
+pub turned-as : (session : Session) (t other : Turn) (c e : SchedChair) → t ≡ other → HasTurned session t c e → HasTurned session other c e
+turned-as session t other c e is = let T : Turn → Type 0 = λ x. HasTurned session x c e in subst T is
+
+module _ (desks : Desks) (inside w : WorkerValue) (is : inside ≡ w) (at : IsWorkerAt desks w) where
+  at-inside : IsWorkerAt desks inside
+  at-inside = subst (IsWorkerAt desks) (sym is) at
+
+  -- its chair at the scheduler's desk
+  pub sched-at : inside.sched.holds ≡ false → IsAt desks.sched inside.sched
+  sched-at free = (at-inside.sched, free)
+
+  pub goes-turn : (e : SchedChair) → Follows inside.sched e → GoesOn desks w (record inside { sched = e })
+  goes-turn e follows =
+      let G : WorkerValue → Type 0 = λ v. GoesOn desks v (record inside { sched = e }) in
+      subst G is (goes-sched desks inside e at-inside follows)
+
+  pub keeps-turn : (e : SchedChair) → PutsQuietly desks.session inside.sched e → KeepsRest desks.session w (record inside { sched = e })
+  keeps-turn e quietly =
+      let K : WorkerValue → Type 0 = λ v. KeepsRest desks.session v (record inside { sched = e }) in
+      subst K is (keeps-quiet desks.session inside e quietly)
+
+  -- its chairs at the cores' desks
+  pub cores-at : Each (IsFree inside.number) inside.cores → AreAt desks.cores.items inside.cores
+  cores-at free = λ pipeline desk chair there found.
+      (at-inside.cores pipeline desk chair there found, (each-get (IsFree inside.number) inside.cores pipeline chair free found).1)
+
+  pub cores-count : length inside.cores ≡ length desks.cores.items
+  cores-count = at-inside.count
+
+  -- it waited at them
+  pub goes-idle : (e : SchedChair) (cores : List CoreChair) → Follows inside.sched e → HaveWaited inside.cores cores
+      → GoesOn desks w (record { number = inside.number; sched = e; cores = cores })
+  goes-idle e cores follows waited =
+      let first = goes-turn e follows in
+      goes-trans desks w (record inside { sched = e }) (record { number = inside.number; sched = e; cores = cores }) first
+      (goes-waited (record inside { sched = e }) cores waited desks first.at)
+
+  pub keeps-idle : (e : SchedChair) (cores : List CoreChair) → PutsQuietly desks.session inside.sched e → Each (IsFree inside.number) inside.cores
+      → HaveWaited inside.cores cores → KeepsRest desks.session w (record { number = inside.number; sched = e; cores = cores })
+  keeps-idle e cores quietly free waited =
+      keeps-trans desks.session w (record inside { sched = e }) (record { number = inside.number; sched = e; cores = cores })
+      (keeps-turn e quietly)
+      (keeps-waited (record inside { sched = e }) cores waited desks.session free)
+
+  -- it used one of them
+  pub goes-core : (pipeline : ℕ) (was now : CoreChair) → slice_get inside.cores pipeline ≡ Some was → IsSameChair was now
+      → GoesOn desks w (record inside { cores = slice_set inside.cores pipeline now })
+  goes-core pipeline was now found same =
+      let G : WorkerValue → Type 0 = λ v. GoesOn desks v (record inside { cores = slice_set inside.cores pipeline now }) in
+      subst G is (record {
+        at = record {
+          sched = at-inside.sched;
+          count = length-set inside.cores pipeline now ∙ at-inside.count;
+          cores = λ other desk chair there set. which other desk chair there (set-at inside.cores pipeline other now chair set);
+        };
+        later = record { number = refl; seen = prefix_same inside.sched.seen; own = prefix_same inside.sched.own };
+      })
+    where
+      which : (other : ℕ) (desk : Opened Config) (chair : CoreChair) → slice_get desks.cores.items other ≡ Some desk
+          → ((other ≡ pipeline) × (chair ≡ now)) ⊎ ((other ≢ pipeline) × (slice_get inside.cores other ≡ Some chair))
+          → chair.desk ≡ desk.id
+      which other desk chair there (inl here) =
+          let F : ℕ → Type 0 = λ n. slice_get inside.cores n ≡ Some was in
+          ap (λ (c : CoreChair). c.desk) here.1 ∙ (same.0 ∙ at-inside.cores other desk was there (subst F (sym here.0) found))
+      which other desk chair there (inr apart) = at-inside.cores other desk chair there apart.1
+
+-- ---- an end
+
+module _ (session : Session) (chair : SchedChair) (end : WorkEnd) (ended : IsEnd session chair end) where
+  pub end-finished : end ≡ Finished → (halted_by (sched_entries chair.seen) ≡ None) × IsTrue (is_over (state_after session (sched_entries chair.seen)))
+  end-finished is = subst (IsEnd session chair) is ended
+
+  pub end-stopped : (by : ℕ) → end ≡ Stopped by → halted_by (sched_entries chair.seen) ≡ Some by
+  end-stopped by is = subst (IsEnd session chair) is ended
+
+  pub end-no-memory : end ≡ Memory → ⊥
+  end-no-memory is = subst (IsEnd session chair) is ended
+
+pub ends-as : (session : Session) (chair : SchedChair) (found : Option WorkEnd) (end : WorkEnd) → found ≡ Some end → IsEndIf session chair found
+    → IsEnd session chair end
+ends-as session chair found end is ended = subst (IsEndIf session chair) is ended

@@ -1,0 +1,55 @@
+use Rattle.std.proofs.Common.{refl}
+use Rattle.lab_workers.proofs.Resting.{goes-trans}
+use Rattle.lab_workers.proofs.Rounds.{end-finished, end-no-memory, end-stopped, free-follows, goes-turn, sched-at}
+use Rattle.lab_workers.proofs.worker.Worker.work.Goals as goal
+
+pub halt-requires-clause-at : goal.halt-requires-clause-at
+halt-requires-clause-at g c = sched-at c.args.desks.now _ c.work_on.new.self c.self.view_is c.in-Err.ensures.goes.at c.self.invariant.0.1
+
+pub invariant_of-self : goal.invariant_of-self
+invariant_of-self g c = (free-follows c.self.inside.number c.self.inside.sched c.halt.new.chair c.self.invariant.0 c.halt.ensures.follows, c.self.invariant.1)
+
+pub returns-in-Ok-clause-at : goal.returns-in-Ok-clause-at
+returns-in-Ok-clause-at g c = c.in-Ok.ensures.goes.at
+
+pub returns-in-Ok-clause-later : goal.returns-in-Ok-clause-later
+returns-in-Ok-clause-later g c = c.in-Ok.ensures.goes.later
+
+pub returns-in-Ok-clause-rest : goal.returns-in-Ok-clause-rest
+returns-in-Ok-clause-rest g c = λ other. c.in-Ok.ensures.worked.keeps.rest
+
+pub returns-in-Ok-clause-finished : goal.returns-in-Ok-clause-finished
+returns-in-Ok-clause-finished g c = end-finished c.args.desks.now.session c.work_on.new.self.sched c.in-Ok.end c.in-Ok.ensures.worked.ends
+
+pub returns-in-Ok-clause-stopped : goal.returns-in-Ok-clause-stopped
+returns-in-Ok-clause-stopped g c = end-stopped c.args.desks.now.session c.work_on.new.self.sched c.in-Ok.end c.in-Ok.ensures.worked.ends
+
+pub returns-in-Ok-clause-memory : goal.returns-in-Ok-clause-memory
+returns-in-Ok-clause-memory g c = λ is. absurd (end-no-memory c.args.desks.now.session c.work_on.new.self.sched c.in-Ok.end c.in-Ok.ensures.worked.ends is)
+
+pub returns-in-Ok-clause-halts : goal.returns-in-Ok-clause-halts
+returns-in-Ok-clause-halts g c = λ other. c.in-Ok.ensures.worked.keeps.halts_are
+
+pub returns-in-Err-clause-at : goal.returns-in-Err-clause-at
+returns-in-Err-clause-at g c =
+    (goes-turn c.args.desks.now _ c.work_on.new.self c.self.view_is c.in-Err.ensures.goes.at c.halt.new.chair c.halt.ensures.follows).at
+
+pub returns-in-Err-clause-later : goal.returns-in-Err-clause-later
+returns-in-Err-clause-later g c =
+    (goes-trans c.args.desks.now c.args.self.now c.work_on.new.self _ c.in-Err.ensures.goes
+    (goes-turn c.args.desks.now _ c.work_on.new.self c.self.view_is c.in-Err.ensures.goes.at c.halt.new.chair c.halt.ensures.follows)).later
+
+pub returns-in-Err-clause-rest : goal.returns-in-Err-clause-rest
+returns-in-Err-clause-rest g c = λ other. absurd (other refl)
+
+pub returns-in-Err-clause-finished : goal.returns-in-Err-clause-finished
+returns-in-Err-clause-finished g c = λ is. absurd (cc)
+
+pub returns-in-Err-clause-stopped : goal.returns-in-Err-clause-stopped
+returns-in-Err-clause-stopped g c = λ by is. absurd (cc)
+
+pub returns-in-Err-clause-memory : goal.returns-in-Err-clause-memory
+returns-in-Err-clause-memory g c = λ is. c.halt.ensures.halted
+
+pub returns-in-Err-clause-halts : goal.returns-in-Err-clause-halts
+returns-in-Err-clause-halts g c = λ other. absurd (other refl)

@@ -1,0 +1,80 @@
+-- A worker, its chairs, and what it keeps between two jobs.
+use Rattle.std.specs.Prelude.{◌≡◌, ℕ, Bool, true, false, List, filter, length, map, slice_get, Some, IsTrue}
+use mathlib.Core.List.{IsPrefix}
+use Rattle.desk.specs.Seated.{Opened, Seated}
+use Rattle.desk_rule.specs.Histories.{Each}
+use Rattle.rtio_core.specs.declared.data.Config.{Config}
+use Rattle.rtio_core.specs.Entries.{open_session}
+use Rattle.exp_model.specs.declared.session.Session.{Session}
+use Rattle.exp_model.specs.Sessions.{is_session}
+use Rattle.sched_state.specs.declared.entry.SchedAct.{SchedAct}
+use Rattle.sched_state.specs.declared.entry.SchedAct.TheVariants.{Halted}
+use Rattle.sched_state.specs.declared.entry.SchedEntry.{SchedEntry}
+use Rattle.lab_ties.specs.Judged.{IsJudged}
+use Rattle.lab_ties.specs.Settings.{config_at}
+use Rattle.lab_ties.specs.Ties.{AreTied}
+use Rattle.desk_kernels.specs.Chairs.{CoreChair, KnowsItsOwn, core_entries}
+use Rattle.lab_workers.specs.declared.desks.Desks.{Desks}
+
+abbrev pub SchedChair : Type 0
+SchedChair = Seated SchedAct Session
+
+-- a worker: its number, its chair at the scheduler's desk, and one at each core's
+pub record WorkerValue : Type 0 where
+  pub number : ℕ
+  pub sched : SchedChair
+  pub cores : List CoreChair
+
+-- the chair has this number and holds nothing
+abbrev pub IsFree : {A F : Type 0} → ℕ → Seated A F → Type 0
+IsFree number c = (c.number ≡ number) × (c.holds ≡ false)
+
+-- the scheduler's history as a desk has it, in the scheduler's own words
+abbrev pub sched_entries : List (ℕ × SchedAct) → List SchedEntry
+sched_entries seen = map (λ (e : ℕ × SchedAct). record { chair = e.0; act = e.1 }) seen
+
+-- the desks are those of this session: the scheduler's session is this one, and a core's settings are those of its pipeline
+pub record AreDesksOf (desks : Desks) : Type 0 where
+  pub session : IsTrue (is_session desks.session)
+  pub sched : desks.sched.fixed ≡ desks.session
+  pub count : length desks.cores.items ≡ length desks.session.pipelines
+  pub cores : (pipeline : ℕ) (desk : Opened Config) → slice_get desks.cores.items pipeline ≡ Some desk → config_at desks.session pipeline ≡ Some desk.fixed
+
+-- the worker's chairs are of these desks
+pub record IsWorkerAt (desks : Desks) (w : WorkerValue) : Type 0 where
+  pub sched : w.sched.desk ≡ desks.sched.id
+  pub count : length w.cores ≡ length desks.cores.items
+  pub cores : (pipeline : ℕ) (desk : Opened Config) (chair : CoreChair) → slice_get desks.cores.items pipeline ≡ Some desk → slice_get w.cores pipeline ≡ Some chair → chair.desk ≡ desk.id
+
+-- what a worker has done on the core of a pipeline is what it reported of the pipeline's kernel steps
+abbrev pub IsTiedAt : Session → WorkerValue → ℕ → CoreChair → Type 0
+IsTiedAt session w pipeline chair =
+    (config : Config) × (config_at session pipeline ≡ Some config)
+    × AreTied session pipeline config w.number (sched_entries w.sched.seen) w.sched.own (core_entries chair.seen) chair.own
+
+-- as far as the chair has seen, no session of this number is open on the core
+abbrev pub IsClosed : (number : ℕ) → CoreChair → Type 0
+IsClosed number chair = (rid : ℕ) → open_session (core_entries chair.seen) ≡ Some (number, rid) → ⊥
+
+-- Between two jobs: what a chair has seen has just the acts of its own that it put; no session of the worker is open on a core; on each
+-- core it has done just what it reported; and each source that it reported was judged rightly
+pub record IsAtRest (session : Session) (w : WorkerValue) : Type 0 where
+  pub sched_own : KnowsItsOwn w.sched
+  pub core_own : Each KnowsItsOwn w.cores
+  pub closed : Each (IsClosed w.number) w.cores
+  pub tied : (pipeline : ℕ) (chair : CoreChair) → slice_get w.cores pipeline ≡ Some chair → IsTiedAt session w pipeline chair
+  pub judged : Each (IsJudged session (sched_entries w.sched.seen)) w.sched.own
+
+-- it is the same worker, and has seen and put more at the scheduler's desk
+pub record IsLater (old new : WorkerValue) : Type 0 where
+  pub number : new.number ≡ old.number
+  pub seen : IsPrefix old.sched.seen new.sched.seen
+  pub own : IsPrefix old.sched.own new.sched.own
+
+abbrev pub is_halt : SchedAct → Bool
+is_halt Halted = true
+is_halt act = false
+
+-- the halts that a chair put
+abbrev pub halts : SchedChair → List SchedAct
+halts chair = filter is_halt chair.own

@@ -1,0 +1,16 @@
+//! Workers of a laboratory that run at once: each takes jobs from the scheduler's desk, compiles sources outside any desk, runs kernels at
+//! the desks of the cores, and reports. How workers go about it is this project's own.
+#![tactic(auto)]
+
+mod desks;
+mod halting;
+mod idling;
+mod preparing;
+mod reporting;
+mod starting;
+mod tasks;
+mod turns;
+mod worker;
+
+pub use desks::Desks;
+pub use worker::{WorkEnd, Worker};

@@ -1,0 +1,102 @@
+// The rounds of a worker.
+
+ghost use Rattle.std.specs.Prelude.{IfOk, OnOk};
+ghost use Rattle.lab_workers.specs.Rounds.{GoesOn, HasRound, HasWorked, KeepsRest};
+ghost use Rattle.lab_workers.specs.Tasks.{IsTaskIn, job_of};
+ghost use Rattle.lab_workers.specs.Turns.{HasTaken};
+ghost use Rattle.lab_workers.specs.Workers.{AreDesksOf, IsWorkerAt, sched_entries};
+
+use super::{WorkEnd, Worker};
+use crate::desks::Desks;
+use crate::idling::let_all_tick;
+use crate::preparing::do_preparation;
+use crate::reporting::tell;
+use crate::tasks::{Report, Task, Turn};
+use crate::turns::next_turn;
+use lab_kits::Gate;
+use std::alloc::{AllocError, Global};
+use std::sync::Wait;
+use std::thread;
+
+impl Worker {
+    /// Works round after round until nothing is left to do or the scheduler is halted. The only error is want of memory.
+    pub(super) fn work_on<R: Wait, G: Gate>(
+        &mut self,
+        rt: &R,
+        alloc: Global,
+        desks: &Desks,
+        gate: &G,
+    ) -> Result<WorkEnd, AllocError>
+        requires desks { AreDesksOf desks.now }
+        requires at { IsWorkerAt desks.now self.old }
+        ensures goes { GoesOn desks.now self.old self.new }
+        ensures worked { IfOk result (λ end. HasWorked desks.now.session end self.old self.new) }
+    {
+        for _ in rt.forever() {
+            if let Some(end) = self.round(rt, alloc, desks, gate)? {
+                return Ok(end);
+            }
+        }
+        unreachable!()
+    }
+
+    // One round: takes a job, does and reports it; or lets the cores tick on; or finds that all is over.
+    fn round<R: Wait, G: Gate>(
+        &mut self,
+        rt: &R,
+        alloc: Global,
+        desks: &Desks,
+        gate: &G,
+    ) -> Result<Option<WorkEnd>, AllocError>
+        requires desks { AreDesksOf desks.now }
+        requires at { IsWorkerAt desks.now self.old }
+        ensures goes { GoesOn desks.now self.old self.new }
+        ensures round { IfOk result (λ end. HasRound desks.now.session end self.old self.new) }
+    {
+        let turn = next_turn(rt, alloc, desks, &mut self.sched)?;
+        match turn {
+            Turn::Job(task) => {
+                self.do_task(rt, alloc, desks, gate, task)?;
+                Ok(None)
+            }
+            Turn::Idle => {
+                let_all_tick(rt, desks.cores.as_slice(), self.cores.as_mut_slice());
+                thread::yield_now();
+                Ok(None)
+            }
+            Turn::Over => Ok(Some(WorkEnd::Finished)),
+            Turn::Stopped { by } => Ok(Some(WorkEnd::Stopped { by })),
+        }
+    }
+
+    // Does the job that the worker took last, and reports it.
+    fn do_task<R: Wait, G: Gate>(
+        &mut self,
+        rt: &R,
+        alloc: Global,
+        desks: &Desks,
+        gate: &G,
+        task: Task,
+    ) -> Result<(), AllocError>
+        requires desks { AreDesksOf desks.now }
+        requires at { IsWorkerAt desks.now self.old }
+        requires taken { HasTaken desks.now.session (job_of task) self.old.sched }
+        requires is { IsTaskIn desks.now.session (sched_entries self.old.sched.seen) task }
+        ensures goes { GoesOn desks.now self.old self.new }
+        ensures keeps { OnOk result (KeepsRest desks.now.session self.old self.new) }
+    {
+        match task {
+            Task::Prepare { rid, run } => {
+                do_preparation(rt, alloc, desks, gate, &mut self.sched, rid, run)
+            }
+            Task::Step(step) => self.do_step(rt, alloc, desks, gate, step),
+            Task::Analyze { rid } => tell(
+                rt,
+                alloc,
+                desks,
+                &mut self.sched,
+                Report::Analyzed { rid },
+            ),
+        }
+    }
+}
