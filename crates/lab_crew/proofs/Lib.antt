@@ -1,0 +1,15 @@
+pub mod Taking
+pub mod Opened
+pub mod Fronts
+pub mod Behind
+pub mod Among
+pub mod Over
+pub mod Set
+pub mod Ended
+pub mod Dealt
+pub mod Leaving
+pub mod Finishing
+pub mod Remaining
+pub mod Ready
+pub mod Crossing
+pub mod Shared

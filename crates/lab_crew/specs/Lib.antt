@@ -1,0 +1,4 @@
+pub mod Columns
+pub mod Closed
+pub mod Crews
+pub mod Rooms

@@ -1,0 +1,15 @@
+//! A crew: workers in threads of their own, at desks that are opened for them and closed behind them. That a laboratory has several
+//! workers is this project's own.
+#![tactic(auto)]
+
+mod closing;
+mod columns;
+mod crew;
+mod dealing;
+mod gathering;
+mod member;
+mod opening;
+mod preparing;
+mod threads;
+
+pub use crew::run_crew;
