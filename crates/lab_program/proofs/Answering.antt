@@ -4,7 +4,7 @@ use Rattle.json_fields.specs.declared.fault.FieldKind.{FieldKind}
 use Rattle.exp_model.specs.declared.session.Session.{Session}
 use Rattle.exp_json.specs.Texts.{HasFault, IsSessionText}
 use Rattle.lab_program.specs.Laboratories.{ReportsRun}
-use Rattle.lab_program.specs.Refusals.{IsRefusedText, field_line}
+use Rattle.lab_program.specs.Refusals.{IsNoValue, IsRefusedText, field_line, json_line}
 
 -- no bytes are a session and have a fault
 abbrev pub NoneHasFault : Type 0
@@ -21,3 +21,6 @@ reported none text report session is run = ((session, is, run), λ told. not-ref
 pub faulty : NoneHasFault → (text line path : List ℕ) (kind : FieldKind) → HasFault text path kind → line ≡ field_line path kind
     → IsRefusedText text line × ((session : Session) → ¬ IsSessionText text session)
 faulty none text line path kind fault is = (inr (path, kind, fault, is), λ session h. none text session path kind h fault)
+
+pub no-json : (text line : List ℕ) → IsNoValue text → line ≡ json_line → IsRefusedText text line × ((session : Session) → ¬ IsSessionText text session)
+no-json text line none is = (inl (none, is), λ session h. none h.0 h.1.0)

@@ -56,6 +56,21 @@ settings-ok s p h e =
     (first (nat_le 1 s.horizon) (nat_le s.horizon 134217728) far)) within)
     (edges-ok p.edges e)) refl) refl
 
+-- at least one worker is asked for
+pub some-work : (s : Session) → IsTrue (are_settings s) → 0 < s.workers
+some-work s h =
+    let cost = nat_le s.cost 1000000 in
+    let budget = is_from_to 1 20000 s.budget in
+    let workers = is_from_to 1 8 s.workers in
+    let lanes = is_from_to 1 32 s.lanes in
+    let depth = is_from_to 1 1024 s.depth in
+    let horizon = is_from_to 1 134217728 s.horizon in
+    let five : (cost && budget && workers && lanes && depth) ≡ true = first (cost && budget && workers && lanes && depth) horizon h in
+    let four : (cost && budget && workers && lanes) ≡ true = first (cost && budget && workers && lanes) depth five in
+    let three : (cost && budget && workers) ≡ true = first (cost && budget && workers) lanes four in
+    let some : workers ≡ true = second (cost && budget) workers three in
+    leb-true 1 s.workers (first (nat_le 1 s.workers) (nat_le s.workers 8) some)
+
 -- ---- each pipeline has its core
 
 -- so are those of each pipeline

@@ -1,49 +1,78 @@
 -- A laboratory whose cores went on until they were stopped.
-use Rattle.std.proofs.Common.{ℕ, List, refl, sym, subst, ◌∙◌}
-use Rattle.std.specs.Prelude.{[], IsTrue}
-use Rattle.rtio_core.specs.Core.{CoreState, IsCore}
+use Rattle.std.proofs.Common.{◌≡◌, ◌<◌, ℕ, List, ◌++◌, drop, length, take, refl, sym, ap, subst, ◌∙◌, arith}
+use Rattle.std.specs.Prelude.{[], Option, None}
+use Rattle.rtio_types.specs.declared.request.Waiting.{Waiting}
+use Rattle.rtio_core.specs.Core.{CoreState, core_top}
+use Rattle.rtio_core.specs.Entries.{open_session}
 use Rattle.rtio_core.specs.Lawful.{IsLawful}
 use Rattle.rtio_headline.specs.Headline.{Headline}
 use Rattle.core_session.specs.Timed.{drained}
 use Rattle.exp_model.specs.declared.session.Session.{Session}
 use Rattle.sched_state.specs.declared.entry.SchedEntry.{SchedEntry}
-use Rattle.sched_state.specs.Picks.{is_over}
-use Rattle.sched_core.specs.Scheds.{IsSched, SchedValue, sched_state}
-use Rattle.stage_work.specs.Serving.{IsServed, IsServedCore}
+use Rattle.sched_core.specs.Scheds.{IsSched, SchedValue}
+use Rattle.lab_kernels.specs.Kernels.{ArePrompt}
+use Rattle.lab_ties.specs.Finished.{IsFinished, IsFinishedCore}
+use Rattle.lab_program.proofs.Alone.{as-slice}
 use Rattle.lab_program.specs.Draining.{AreDrained, IsDrained}
-use Rattle.lab_program.specs.Laboratories.{IsRunCore, IsRunOf}
+use Rattle.lab_program.specs.Laboratories.{ArePromptCores, IsRunCore, IsRunOf, IsWorkedOff}
+
+-- several workers
+pub crew-worked : (session : Session) (sched : SchedValue) (cores : List CoreState) → 1 < session.workers
+    → IsFinished session session.workers sched cores → IsWorkedOff session sched cores
+crew-worked session sched cores several finished = record { finished = finished; prompt = λ one. absurd (omega (arith, several, one)) }
+
+-- no request waits on a core that went on without a session
+pub none-waits : (old new : CoreState) (waits : Option Waiting) → new ≡ drained old → open_session old.history ≡ None → waits ≡ new.waiting
+    → (open_session new.history ≡ None → waits ≡ None) → new.waiting ≡ None
+none-waits old new waits is closed value none = sym value ∙ none (ap (λ (c : CoreState). open_session c.history) is ∙ closed)
 
 abbrev HeadlineHolds : Type 0
 HeadlineHolds = (core : CoreState) → IsLawful core.config core.history → Headline core
 
--- the histories stay, so what holds of the cores that the worker left holds of those that went on
-core-finished : HeadlineHolds → (session : Session) (sched : List SchedEntry) (pipeline : ℕ) (left : CoreState)
-    → IsServedCore session sched pipeline left → IsCore (drained left) → IsRunCore session sched pipeline (drained left)
-core-finished headline session sched pipeline left served lawful = record {
-  config = served.config;
-  lawful = lawful;
-  closed = served.closed;
-  idle = served.idle;
-  stopped = refl;
-  prompt = served.prompt;
-  alone = served.alone;
-  tied = served.tied;
-  headline = headline (drained left) lawful.lawful;
+-- the histories stay, so what holds of the cores that the workers left holds of those that went on
+finished-on : (session : Session) (workers : ℕ) (sched : List SchedEntry) (pipeline : ℕ) (left : CoreState)
+    → IsFinishedCore session workers sched pipeline left → IsFinishedCore session workers sched pipeline (drained left)
+finished-on session workers sched pipeline left f = record { config = f.config; closed = f.closed; chairs = f.chairs; tied = f.tied }
+
+run-core : HeadlineHolds → (before : List CoreState) (pipeline : ℕ) (core : CoreState) → IsDrained before pipeline core → IsRunCore core
+run-core headline before pipeline core d = record {
+  lawful = d.lawful;
+  idle = d.idle;
+  stopped = subst (λ (c : CoreState). c.counter ≡ core_top c) (sym d.drained_is) refl;
+  headline = headline core d.lawful.lawful;
 }
 
 pub finished : HeadlineHolds → (session : Session) (sched : SchedValue) (left cores : List CoreState)
-    → IsServed session [] sched left → IsTrue (is_over (sched_state sched)) → IsSched sched → AreDrained left cores → IsRunOf session sched cores
-finished headline session sched left cores served over lawful all = record {
+    → IsWorkedOff session sched left → IsSched sched → AreDrained left cores → IsRunOf session sched cores
+finished headline session sched left cores done lawful all = record {
   lawful = lawful;
-  served = served.scheduler;
-  over = over;
-  count = all.count ∙ served.each_core.count;
-  each = λ pipeline core at. one pipeline core (all.each pipeline core at);
+  done = record {
+    finished = record {
+      scheduler = done.finished.scheduler;
+      count = all.count ∙ done.finished.count;
+      each = λ pipeline core at. one pipeline core (all.each pipeline core at);
+    };
+    prompt = λ alone pipeline core at. prompt pipeline core (done.prompt alone) (all.each pipeline core at);
+  };
+  each = λ pipeline core at. run-core headline left pipeline core (all.each pipeline core at);
 }
   where
-    one : (pipeline : ℕ) (core : CoreState) → IsDrained left pipeline core → IsRunCore session sched.history pipeline core
+    one : (pipeline : ℕ) (core : CoreState) → IsDrained left pipeline core → IsFinishedCore session session.workers sched.history pipeline core
     one pipeline core d =
-        let L : CoreState → Type 0 = λ c. IsCore c in
-        let R : CoreState → Type 0 = λ c. IsRunCore session sched.history pipeline c in
-        subst R (sym d.drained_is)
-        (core-finished headline session sched.history pipeline d.left (served.each_core.each pipeline d.left d.found) (subst L d.drained_is d.lawful))
+        let F : CoreState → Type 0 = λ c. IsFinishedCore session session.workers sched.history pipeline c in
+        subst F (sym d.drained_is)
+        (finished-on session session.workers sched.history pipeline d.left (done.finished.each pipeline d.left d.found))
+
+    prompt : (pipeline : ℕ) (core : CoreState) → ArePromptCores left → IsDrained left pipeline core → ArePrompt [] core.history
+    prompt pipeline core so d =
+        let P : CoreState → Type 0 = λ c. ArePrompt [] c.history in
+        subst P (sym d.drained_is) (so pipeline d.left d.found)
+
+pub finished-slice : HeadlineHolds → (session : Session) (sched : SchedValue) (left lent now : List CoreState) (n : ℕ)
+    → n ≡ length left → lent ≡ left → IsWorkedOff session sched left → IsSched sched → AreDrained lent now
+    → IsRunOf session sched (take n (now ++ drop (length now) left))
+finished-slice headline session sched left lent now n is same done lawful all =
+    let R : List CoreState → Type 0 = λ cores. IsRunOf session sched cores in
+    let D : List CoreState → Type 0 = λ cores. AreDrained cores now in
+    subst R (sym (as-slice left now n is (all.count ∙ ap length same)))
+    (finished headline session sched left now done lawful (subst D same all))

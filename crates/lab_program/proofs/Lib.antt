@@ -1,3 +1,4 @@
+mod Alone
 mod Answering
 mod Cores
 mod Drained

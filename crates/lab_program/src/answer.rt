@@ -9,6 +9,8 @@ use exp_json::laws::no_session_has_a_fault;
 use exp_json::{SessionFault, read_session};
 use lab_kits::Gate;
 use std::alloc::{AllocError, Global};
+use std::sync::Wait;
+use std::thread::Threads;
 
 /// What is said of some bytes.
 #[derive(Drop)]
@@ -20,12 +22,17 @@ pub enum Answer {
 }
 
 /// Reads bytes as a session and runs it, or says why they are none.
-pub fn answer_to<G: Gate>(alloc: Global, text: &[u8], gate: &G) -> Result<Answer, AllocError>
+pub fn answer_to<R: Threads + Wait + Sync, G: Gate + Sync>(
+    rt: &R,
+    alloc: Global,
+    text: &[u8],
+    gate: &G,
+) -> Result<Answer, AllocError>
     ensures { IfOk result (λ answer. IsAnswerTo text.now answer) }
 {
     no_session_has_a_fault();
     match read_session(alloc, text) {
-        Ok(session) => Ok(Answer::Due(run_laboratory(alloc, &session, gate)?)),
+        Ok(session) => Ok(Answer::Due(run_laboratory(rt, alloc, &session, gate)?)),
         Err(SessionFault::Json) => Ok(Answer::Refused(json_refusal(alloc)?)),
         Err(SessionFault::Field { path, kind }) => {
             Ok(Answer::Refused(field_refusal(alloc, &path, kind)?))

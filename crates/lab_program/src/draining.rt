@@ -24,7 +24,10 @@ fn drain(core: &mut Core)
     requires { open_session core.old.history ≡ None }
     ensures value { core.new ≡ drained core.old }
     ensures lawful { IsCore core.new }
+    ensures idle { core.new.waiting ≡ None }
 {
     drain_core(core);
     let _known = core.history();
+    // No request waits where no session is open.
+    let _waits = core.waiting();
 }

@@ -1,14 +1,15 @@
 // A session of a laboratory, from its beginning to its report.
 
-ghost use Rattle.std.specs.Prelude.{◌≡◌, IfOk, IsTrue, OnOk};
+ghost use Rattle.std.specs.Prelude.{◌≡◌, IfOk, IsTrue};
 ghost use Rattle.exp_model.specs.Sessions.{is_session};
 ghost use Rattle.sched_core.specs.Scheds.{new_sched};
 ghost use Rattle.lab_ties.specs.Settings.{new_cores};
-ghost use Rattle.lab_program.specs.Laboratories.{IsRunOf, ReportsRun};
+ghost use Rattle.lab_program.specs.Laboratories.{IsRunOf, IsWorkedOff, ReportsRun};
 
 use crate::draining::drain_cores;
 use crate::opening::open_cores;
 use exp_model::Session;
+use lab_crew::run_crew;
 use lab_kits::{Gate, Kit};
 use lab_report::report;
 use rtio_core::Core;
@@ -16,10 +17,13 @@ use rtio_headline::what_is_put_out_was_submitted;
 use sched_core::Sched;
 use stage_work::serve;
 use std::alloc::{AllocError, Global};
+use std::sync::Wait;
+use std::thread::Threads;
 
-/// Has one worker serve a session until every run has ended, lets the cores go on until they are stopped, and gives the report.
-/// The only error is want of memory.
-pub fn run_laboratory<G: Gate>(
+/// Has the workers of a session do what it asks for until every run has ended, lets the cores go on until they are stopped, and gives
+/// the report. Of several workers each runs in a thread of its own, where one can be made. The only error is want of memory.
+pub fn run_laboratory<R: Threads + Wait + Sync, G: Gate + Sync>(
+    rt: &R,
     alloc: Global,
     session: &Session,
     gate: &G,
@@ -27,42 +31,52 @@ pub fn run_laboratory<G: Gate>(
     requires { IsTrue (is_session session.now) }
     ensures { IfOk result (λ text. ReportsRun session.now text.items) }
 {
-    let mut sched = Sched::new(alloc, session)?;
-    let mut cores = open_cores(alloc, session)?;
-    serve_and_report(alloc, &mut sched, &mut cores, session, gate)
+    let sched = Sched::new(alloc, session)?;
+    let cores = open_cores(alloc, session)?;
+    let (sched, cores) = finish(rt, alloc, session, gate, sched, cores)?;
+    report(alloc, &sched, &cores)
 }
 
-// Serves a new laboratory to its end, and gives its report.
-fn serve_and_report<G: Gate>(
+// Has the workers go through with a new laboratory, and lets its cores go on.
+fn finish<R: Threads + Wait + Sync, G: Gate + Sync>(
+    rt: &R,
     alloc: Global,
-    sched: &mut Sched<Kit>,
-    cores: &mut [Core],
     session: &Session,
     gate: &G,
-) -> Result<Vec<u8>, AllocError>
-    requires sched { sched.old ≡ new_sched session.now }
-    requires cores { cores.old ≡ new_cores session.now }
-    ensures { IfOk result (λ text. ReportsRun session.now text.items) }
-{
-    finish(alloc, sched, cores, session, gate)?;
-    report(alloc, sched, cores)
-}
-
-// Serves a new laboratory to its end.
-fn finish<G: Gate>(
-    alloc: Global,
-    sched: &mut Sched<Kit>,
-    cores: &mut [Core],
-    session: &Session,
-    gate: &G,
-) -> Result<(), AllocError>
-    requires sched { sched.old ≡ new_sched session.now }
-    requires cores { cores.old ≡ new_cores session.now }
-    ensures { OnOk result (IsRunOf session.now sched.new cores.new) }
+    sched: Sched<Kit>,
+    cores: Vec<Core>,
+) -> Result<(Sched<Kit>, Vec<Core>), AllocError>
+    requires session { IsTrue (is_session session.now) }
+    requires sched { sched ≡ new_sched session.now }
+    requires cores { cores.items ≡ new_cores session.now }
+    ensures { IfOk result (λ left. IsRunOf session.now left.0 left.1.items) }
 {
     what_is_put_out_was_submitted();
-    serve(alloc, sched, cores, session, gate)?;
+    let (sched, mut cores) = work_off(rt, alloc, session, gate, sched, cores)?;
     let _known = sched.history();
-    drain_cores(cores);
-    Ok(())
+    drain_cores(&mut cores);
+    Ok((sched, cores))
+}
+
+// Has one worker serve a new laboratory alone, or several at once.
+fn work_off<R: Threads + Wait + Sync, G: Gate + Sync>(
+    rt: &R,
+    alloc: Global,
+    session: &Session,
+    gate: &G,
+    sched: Sched<Kit>,
+    cores: Vec<Core>,
+) -> Result<(Sched<Kit>, Vec<Core>), AllocError>
+    requires session { IsTrue (is_session session.now) }
+    requires sched { sched ≡ new_sched session.now }
+    requires cores { cores.items ≡ new_cores session.now }
+    ensures { IfOk result (λ left. IsWorkedOff session.now left.0 left.1.items) }
+{
+    if session.workers > 1 {
+        return run_crew(rt, alloc, session, gate, sched, cores, session.workers);
+    }
+    let mut sched = sched;
+    let mut cores = cores;
+    serve(alloc, &mut sched, &mut cores, session, gate)?;
+    Ok((sched, cores))
 }

@@ -9,4 +9,5 @@ mod refusal;
 mod top;
 
 pub use laboratory::run_laboratory;
+pub use opening::open_cores;
 pub use top::{lab_top, without_memory};

@@ -20,12 +20,13 @@ const USAGE: &[u8] = b"usage: artiq_lab\n";
 // The most bytes of a session.
 const MAX_BYTES: u64 = 1_048_576;
 
-/// Reads a session, has it served, and writes its report. One worker serves, whatever the session's `workers` says.
+/// Reads a session, has as many workers as it says do what it asks for, and writes the report. One worker works alone; of several each
+/// runs in a thread of its own, where one can be made. What is promised is promised of all the orders in which they may take turns.
 ///
 /// The status is 0 where the report was written, whatever became of the runs; 1 where the text is no session; 2 where there is a
 /// word; 3 where the source failed, and 4 where a sink did; 5 for want of memory; 8 where the source held too much.
 pub fn lab_top<R: Threads + Wait + Sync, S: Source, K: Sink, E: Sink, G: Gate + Sync>(
-    _rt: &R,
+    rt: &R,
     alloc: Global,
     words: &[String],
     source: &mut S,
@@ -51,9 +52,9 @@ pub fn lab_top<R: Threads + Wait + Sync, S: Source, K: Sink, E: Sink, G: Gate + 
     // Memory was refused.
     ensures memory { result ≡ 5 → OnlyTells (K.held out.old) (K.held out.new) (E.held err.old) (E.held err.new) (refusal_line memory) }
     // All that the source held is a session, and out has the report of a run of it: of a scheduler's lawful history in which every
-    // run has ended, and of lawful histories of the cores, whose sessions are just the kernel steps that were reported, each of its
-    // step's source, function and arguments, with the requests, outcome and cursor that the source means; and what each core put
-    // out is what its sessions submitted, less what was overridden and what the log names.
+    // run has ended, and of lawful histories of the cores. Of each worker the sessions on a core are just the kernel steps that it
+    // reported, each of its step's source, function and arguments, with the requests, outcome and cursor that the source means; and
+    // what each core put out is what its sessions submitted, less what was overridden and what the log names.
     ensures due { result ≡ 0 → GivesReport (S.left source.old) (S.left source.new) (K.held out.old) (K.held out.new)
         × (E.held err.new ≡ E.held err.old) }
     // A sink failed, and has a part of what was due.
@@ -92,7 +93,7 @@ pub fn lab_top<R: Threads + Wait + Sync, S: Source, K: Sink, E: Sink, G: Gate + 
         Err(ReadEnd::Fault) => told(err, b"read fault\n", 3),
         Err(ReadEnd::TooLong) => told(err, b"too long\n", 8),
         Err(ReadEnd::Memory) => told(err, b"memory\n", 5),
-        Ok(text) => match answer_to(alloc, &text, gate) {
+        Ok(text) => match answer_to(rt, alloc, &text, gate) {
             Err(_) => told(err, b"memory\n", 5),
             Ok(Answer::Refused(line)) => told(err, &line, 1),
             Ok(Answer::Due(report)) => told(out, &report, 0),

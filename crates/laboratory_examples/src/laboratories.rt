@@ -4,7 +4,9 @@ use exp_json::read_session;
 use lab_kits::OpenGate;
 use lab_program::run_laboratory;
 use std::alloc::{AllocError, Global};
+use std::sync::Wait;
 use std::test::Fail;
+use std::thread::Threads;
 
 // Two pulses of 100 mu, 200 mu apart, and the steps of the first experiment's run stage; the second has one kernel step.
 const BEFORE_STEPS: &str = r#"{"workers":1,"pipelines":[{}],
@@ -98,9 +100,9 @@ out 125000 0 0 1\nout 125100 0 0 0\ncursor 125200\ncounter 125096\nend\n",
 ];
 
 // The report of a session.
-fn report_of(alloc: Global, json: &str) -> Result<Vec<u8>, Fail> {
+fn report_of<R: Threads + Wait + Sync>(rt: &R, alloc: Global, json: &str) -> Result<Vec<u8>, Fail> {
     let session = read_session(alloc, json.as_bytes())?;
-    Ok(run_laboratory(alloc, &session, &OpenGate)?)
+    Ok(run_laboratory(rt, alloc, &session, &OpenGate)?)
 }
 
 fn text_of(alloc: Global, row: &Row) -> Result<String, AllocError> {
@@ -118,7 +120,7 @@ fn runs_pass_their_stages(rt: HostRuntime) -> Result<(), Fail> {
     let alloc = rt.alloc();
     for row in ROWS {
         let json = text_of(alloc, row)?;
-        let report = report_of(alloc, json.as_str())?;
+        let report = report_of(&rt, alloc, json.as_str())?;
         assert_eq!(rt;
             report.as_slice(),
             row.report.as_bytes(),
@@ -138,9 +140,9 @@ const SESSIONS: &[(&str, &str)] = &[
         "step 1 0 0 ok\nstep 2 1 0 ok\nrun 0 done\nrun 1 done\ncore 0
 out 1000 0 0 1\nout 1100 0 0 0\nout 2100 0 0 1\nout 2200 0 0 0\ncursor 2200\ncounter 2200\nend\n",
     ),
-    // Two pipelines of two cores, in a session for two workers, whom one replaces.
+    // Two pipelines of two cores.
     (
-        r#"{"workers":2,"pipelines":[{},{}],"sources":["def main():\n    delay_mu(1000)\n    ttl0.pulse_mu(100)\n"],
+        r#"{"workers":1,"pipelines":[{},{}],"sources":["def main():\n    delay_mu(1000)\n    ttl0.pulse_mu(100)\n"],
 "experiments":[{"source":0,"prepare":[],"run":[{"kernel":"main","args":[]}],"analyze":[]}],
 "arrivals":[{"at":0,"submit":{"experiment":0,"pipeline":0}},{"at":0,"submit":{"experiment":0,"pipeline":1}}]}"#,
         "step 1 0 0 ok\nstep 2 1 0 ok\nrun 0 done\nrun 1 done
@@ -173,7 +175,7 @@ core 0\ncursor -8\ncounter 0\ncore 1\ncursor 0\ncounter 0\ncore 2\ncursor 1000\n
 #[test]
 fn sessions_have_their_reports(rt: HostRuntime) -> Result<(), Fail> {
     for (json, report) in SESSIONS {
-        let found = report_of(rt.alloc(), json)?;
+        let found = report_of(&rt, rt.alloc(), json)?;
         assert_eq!(rt; found.as_slice(), report.as_bytes(), "{}", json);
     }
     Ok(())

@@ -16,7 +16,7 @@ pub loop-core-preserved : goal.loop-core-preserved
 loop-core-preserved c =
     let there : c.loop-core.core-index < length c.loop-core.cores = omega arith in
     drained-more c.args.cores.now c.loop-core.cores c.loop-core.core-index c.core-item.result c.drain.new.core there
-    c.drain.ensures.value c.drain.ensures.lawful c.loop-core.invariant
+    c.drain.ensures.value c.drain.ensures.lawful c.drain.ensures.idle c.loop-core.invariant
 
 pub returns : goal.returns
 returns c =

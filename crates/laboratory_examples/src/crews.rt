@@ -1,0 +1,98 @@
+// Sessions of several workers.
+
+use exp_json::read_session;
+use lab_kits::{Gate, OpenGate, Place};
+use lab_program::run_laboratory;
+use std::alloc::{AllocError, Global};
+use std::sync::atomic::{AtomicBool, AtomicU64, Ordering};
+use std::test::Fail;
+use std::thread;
+
+// ---- any number of workers
+
+const BEFORE_WORKERS: &str = r#"{"workers":"#;
+
+// One pipeline, and two runs of a kernel.
+const BEHIND_WORKERS: &str =
+    r#","pipelines":[{}],"sources":["def main():\n    delay_mu(1000)\n    ttl0.pulse_mu(100)\n"],
+"experiments":[{"source":0,"prepare":[],"run":[{"kernel":"main","args":[]}],"analyze":[]}],
+"arrivals":[{"at":0,"submit":{"experiment":0,"pipeline":0}},{"at":0,"submit":{"experiment":0,"pipeline":0}}]}"#;
+
+// The second run goes on at the cursor of the first.
+const REPORT: &str = "step 1 0 0 ok\nstep 2 1 0 ok\nrun 0 done\nrun 1 done\ncore 0
+out 1000 0 0 1\nout 1100 0 0 0\nout 2100 0 0 1\nout 2200 0 0 0\ncursor 2200\ncounter 2200\nend\n";
+
+fn text_for(alloc: Global, workers: u32) -> Result<String, AllocError> {
+    let mut json = String::new(alloc);
+    write!(json, "{BEFORE_WORKERS}{workers}{BEHIND_WORKERS}")?;
+    Ok(json)
+}
+
+#[test]
+fn one_pipeline_has_one_report_whoever_works(rt: HostRuntime) -> Result<(), Fail> {
+    let alloc = rt.alloc();
+    for workers in 1..9 {
+        let json = text_for(alloc, workers)?;
+        let session = read_session(alloc, json.as_bytes())?;
+        let report = run_laboratory(&rt, alloc, &session, &OpenGate)?;
+        assert_eq!(rt; report.as_slice(), REPORT.as_bytes(), "{} workers", workers);
+    }
+    Ok(())
+}
+
+// ---- two at once
+
+// Two workers, two pipelines, and a run in each.
+const TWO: &str =
+    r#"{"workers":2,"pipelines":[{},{}],"sources":["def main():\n    delay_mu(1000)\n    ttl0.pulse_mu(100)\n"],
+"experiments":[{"source":0,"prepare":[],"run":[{"kernel":"main","args":[]}],"analyze":[]}],
+"arrivals":[{"at":0,"submit":{"experiment":0,"pipeline":0}},{"at":0,"submit":{"experiment":0,"pipeline":1}}]}"#;
+
+const MOST_TURNS: u32 = 50_000_000;
+
+const NOBODY: u64 = u64::MAX;
+
+// Keeps the worker that is about to compile for run 0 until another has ended a kernel of run 1, and tells whether they met.
+#[derive(Drop)]
+struct Meeting {
+    ended_by: AtomicU64,
+    met: AtomicBool,
+}
+
+impl Gate for Meeting {
+    fn at(&self, worker: u32, place: Place) {
+        match place {
+            Place::Compiling { rid: 0 } => self.await_other(u64::from(worker)),
+            Place::KernelEnded { rid: 1 } => {
+                self.ended_by.store(u64::from(worker), Ordering::SeqCst)
+            }
+            _ => {}
+        }
+    }
+}
+
+impl Meeting {
+    fn await_other(&self, worker: u64) {
+        for _ in 0..MOST_TURNS {
+            let by = self.ended_by.load(Ordering::SeqCst);
+            if by != NOBODY && by != worker {
+                self.met.store(true, Ordering::SeqCst);
+                return;
+            }
+            thread::yield_now();
+        }
+    }
+}
+
+#[test]
+fn one_compiles_while_another_runs_a_kernel(rt: HostRuntime) -> Result<(), Fail> {
+    let alloc = rt.alloc();
+    let session = read_session(alloc, TWO.as_bytes())?;
+    let gate = Meeting {
+        ended_by: AtomicU64::new(NOBODY),
+        met: AtomicBool::new(false),
+    };
+    run_laboratory(&rt, alloc, &session, &gate)?;
+    assert!(rt; gate.met.load(Ordering::SeqCst));
+    Ok(())
+}
