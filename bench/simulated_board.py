@@ -62,6 +62,10 @@ class Board:
     def delay_mu(self, time):
         self.cursor += time
 
+    def break_realtime(self):
+        """Moves the cursor ahead of the counter, unless it is there."""
+        self.cursor = max(self.cursor, 8 * self.counter + AHEAD)
+
     def reset(self):
         """Clears what is still to come, and moves the cursor ahead of the counter."""
         for stamp, channel, number, _, _ in sorted(self.waiting, key=lambda event: event[2]):
