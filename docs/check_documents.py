@@ -1,19 +1,20 @@
 #!/usr/bin/env python3
 """Tries on the built program what the README, the documents and the page of the examples say of it.
 
-    python3 docs/check_documents.py [--program PATH]
+    python3 docs/check_documents.py [--program PATH] [--laboratory PATH]
 
-Without PATH it runs bin/artiq_sim, which proves and builds the program first. It is run by hand, ends with status 1 where
-something is otherwise than written, and says where. What it tries:
+Without PATH it runs bin/artiq_sim and bin/artiq_lab, which prove and build the programs first. It is run by hand, ends with
+status 1 where something is otherwise than written, and says where. What it tries:
 
 - A block "python NAME.py" is a file for the commands behind it. In a block "console" each line behind "$ " is run by bash,
   in a folder with these files, bin/ and examples/, and prints what stands below it. An indented line that begins with
-  bin/artiq_sim, head, or python3 and another script of docs/ is run there too, and ends with status 0.
+  bin/artiq_sim, bin/artiq_lab, head, or python3 and another script of docs/ is run there too, and ends with status 0.
 - A block "python COMMAND STATUS" is a text to which the command (sim or check) answers this status. A block "text" behind
   it is what that writes: on standard output, at status 1 on standard error.
 - In a table with the columns line, text and mended, the text is refused with the line, and the mended one isn't refused.
 - Where a sentence says that a text in backquotes gives, or is told as, a line in backquotes, the text is refused so.
-- Each example gives its report under the options in its `.words`, and stands with all three in the test of sim_examples.
+- Each kernel in examples/ gives its report under the options in its `.words`, and stands with all three in the test of
+  sim_examples. Each session there that has a report gives it.
 - Each path in backquotes is there; ARCHITECTURE.md names each file of definitions or its folder, and, as the README, each
   crate; each word in backquotes in CONTRACTS.md stands in the code of the crate that its heading names; and the README has
   at most 12 KB, no cell of a table more than forty words.
@@ -27,19 +28,20 @@ import tempfile
 ROOT = pathlib.Path(__file__).resolve().parent.parent
 FENCE = re.compile(r"^```(\w*) ?(.*)\n((?:.*\n)*?)```$", re.M)
 GIVES = re.compile(r"`([^`\n]+)` (?:gives|is told as) `((?:lex|syntax|type|code) [^`\n]+)`")
-COMMAND = re.compile(r"^    ((?:bin/artiq_sim (?:sim|check|compile|exec|gen|dump|vcd)|head|python3 docs/(?!check_documents))[^#\n]*)", re.M)
+COMMAND = re.compile(r"^    ((?:bin/artiq_sim (?:sim|check|compile|exec|gen|dump|vcd)|bin/artiq_lab|head|python3 docs/(?!check_documents))[^#\n]*)", re.M)
 PATH = re.compile(r"`((?:docs|crates|examples|bench|bin)/[\w./-]+)`")
 
 
 class Checker:
-    def __init__(self, program, folder):
+    def __init__(self, programs, folder):
         self.folder = folder
         self.tried = 0
         self.wrong = 0
         (folder / "bin").mkdir()
-        launcher = folder / "bin" / "artiq_sim"
-        launcher.write_text(f'#!/bin/sh\nexec "{program}" "$@"\n')
-        launcher.chmod(0o755)
+        for name, program in programs.items():
+            launcher = folder / "bin" / name
+            launcher.write_text(f'#!/bin/sh\nexec "{program}" "$@"\n')
+            launcher.chmod(0o755)
         for name in ("examples", "docs", "crates"):
             (folder / name).symlink_to(ROOT / name)
 
@@ -127,6 +129,13 @@ class Checker:
                 literal = text.replace("\\", "\\\\").replace('"', '\\"').replace("\n", "\\n")
                 self.expect(example.name, "its test", f'"{literal}"' in tests, True)
 
+    def sessions(self):
+        for report in sorted((ROOT / "examples").glob("*.report")):
+            session = report.with_suffix(".json")
+            if session.exists():
+                run = subprocess.run([self.folder / "bin" / "artiq_lab"], input=session.read_bytes(), capture_output=True)
+                self.expect(session.name, "its report", (run.stdout.decode(), run.stderr.decode()), (report.read_text(), ""))
+
     def sizes(self):
         readme = (ROOT / "README.md").read_text()
         self.expect("README.md", "at most 12 KB", len(readme.encode()) <= 12288, True)
@@ -155,24 +164,29 @@ class Checker:
                 self.expect("docs/CONTRACTS.md", f"{heading}: {quoted}", [w for w in words if w not in known], [])
 
 
-def program_named(usage):
-    """Returns the program that the words name, else the launcher; ends with the usage at other words."""
-    if len(sys.argv) == 3 and sys.argv[1] == "--program":
-        return pathlib.Path(sys.argv[2]).resolve()
-    if len(sys.argv) != 1:
+def programs_named(usage):
+    """Returns the programs that the words name, else the launchers; ends with the usage at other words."""
+    programs = {name: ROOT / "bin" / name for name in ("artiq_sim", "artiq_lab")}
+    words = sys.argv[1:]
+    while len(words) >= 2 and words[0] in ("--program", "--laboratory"):
+        programs["artiq_sim" if words[0] == "--program" else "artiq_lab"] = pathlib.Path(words[1]).resolve()
+        words = words[2:]
+    if words:
         sys.exit(usage)
-    return ROOT / "bin" / "artiq_sim"
+    return programs
 
 
 def main():
-    program = program_named(__doc__)
-    # The launcher tells of its building on standard error, where a text's line is looked for; so it builds now.
-    subprocess.run([program, "check"], stdin=subprocess.DEVNULL, stdout=subprocess.DEVNULL, check=False)
+    programs = programs_named(__doc__)
+    # The launchers tell of their building on standard error, where a text's line is looked for; so they build now.
+    for program in programs.values():
+        subprocess.run([program, "check"], stdin=subprocess.DEVNULL, stdout=subprocess.DEVNULL, check=False)
     with tempfile.TemporaryDirectory() as folder:
-        checker = Checker(program, pathlib.Path(folder))
+        checker = Checker(programs, pathlib.Path(folder))
         for path in [ROOT / "README.md", ROOT / "examples/README.md", *sorted((ROOT / "docs").glob("*.md"))]:
             checker.page(path)
         checker.examples()
+        checker.sessions()
         checker.sizes()
         checker.names()
     print(f"{checker.tried} tried, {checker.wrong} otherwise than written")
