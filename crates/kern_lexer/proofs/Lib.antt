@@ -1,3 +1,5 @@
+pub mod ByteTable
+pub mod ChoiceLemmas
 pub mod CountLemmas
 pub mod DecimalLemmas
 pub mod EndLemmas

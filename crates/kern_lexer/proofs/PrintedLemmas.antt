@@ -1,5 +1,5 @@
 -- Lemmas on the spelling of symbols, which is read as them.
-use Rattle.std.proofs.Common.{◌≡◌, ℕ, suc, ◌+◌, ◌<◌, ◌^◌, ◌∙◌, Bool, true, false, List, [], ◌∷◌, ◌++◌, take, length, get_or, Option, Some, None, Result, Ok, Err, ap, refl, arith, nat_eq, nat_le, append_assoc, is_none, lit<, length-append}
+use Rattle.std.proofs.Common.{◌≡◌, ℕ, suc, ◌+◌, ◌<◌, ◌^◌, ◌∙◌, Bool, true, false, List, [], ◌∷◌, ◌++◌, take, drop, length, get_or, Option, Some, None, Result, Ok, Err, ap, refl, sym, arith, nat_eq, nat_le, append_assoc, is_none, lit<, length-append}
 use Rattle.std.specs.Fmt.{decimal}
 use Rattle.std.specs.List.{prefix_len, take_while, list_all}
 use Rattle.std.specs.Str.{all_ascii_digits}
@@ -175,3 +175,10 @@ space-is_skipped line at rest = same (words_from line (suc at) 0 rest)
     same : (words : Result (List LexToken) LexFault) → words >>= (λ others. Ok ([] ++ others)) ≡ words
     same (Ok others) = refl
     same (Err fault) = refl
+
+-- the same of bytes whose first is a space
+pub space-first : (line at : ℕ) (bytes : Bytes) → get_or bytes 0 0 ≡ space → words_from line (at + 1) 0 (drop 1 bytes) ≡ words_from line at 0 bytes
+space-first line at [] is = refl
+space-first line at (b ∷ rest) is =
+    let e : suc at ≡ at + 1 = omega arith in
+    sym (ap (λ x. words_from line at 0 (x ∷ rest)) is ∙ space-is_skipped line at rest ∙ ap (λ n. words_from line n 0 rest) e)

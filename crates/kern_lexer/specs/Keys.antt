@@ -1,5 +1,5 @@
 -- The keywords and their spelling.
-use Rattle.std.specs.Prelude.{List, [], ◌∷◌, codes, Option, find, nat_eq}
+use Rattle.std.specs.Prelude.{ℕ, ◌-◌, List, [], ◌∷◌, Bool, ◌&&◌, ◌==◌, codes, length, Option, find, nat_eq, slice_index}
 use Rattle.std.specs.Cmp.Lexicographic.{pointwise}
 use Rattle.kern_lexer.specs.Bytes.{Bytes}
 use Rattle.kern_lexer.specs.declared.token.Key.{Key}
@@ -36,3 +36,7 @@ keys =
 -- the keyword that a word is
 abbrev pub key_of : Bytes → Option Key
 key_of word = find (λ k. pointwise nat_eq word (key_text k)) keys
+
+-- whether a word has this first and this last byte
+abbrev pub is_between : (first last : ℕ) → Bytes → Bool
+is_between first last word = (slice_index word 0 == first) && (slice_index word (length word - 1) == last)

@@ -24,11 +24,22 @@ const NAME_LEN: usize = 64;
 /// The most bytes that a text in quotes has.
 const TEXT_LEN: usize = 32;
 
+// Each letter, digit and underscore stands at its own place, and a comma at every other.
+static WORD_BYTES: [u8; 256] = *b"\
+    ,,,,,,,,,,,,,,,,,,,,,,,,,,,,,,,,\
+    ,,,,,,,,,,,,,,,,0123456789,,,,,,\
+    ,ABCDEFGHIJKLMNOPQRSTUVWXYZ,,,,_\
+    ,abcdefghijklmnopqrstuvwxyz,,,,,\
+    ,,,,,,,,,,,,,,,,,,,,,,,,,,,,,,,,\
+    ,,,,,,,,,,,,,,,,,,,,,,,,,,,,,,,,\
+    ,,,,,,,,,,,,,,,,,,,,,,,,,,,,,,,,\
+    ,,,,,,,,,,,,,,,,,,,,,,,,,,,,,,,,";
+
 /// A letter, a digit or an underscore.
 fn is_word_byte(b: u8) -> bool
     ensures { result ≡ is_word_byte b }
 {
-    b.is_ascii_alphanumeric() || b == b'_'
+    WORD_BYTES[b as usize] != b','
 }
 
 /// How many letters, digits and underscores some bytes begin with.
@@ -100,9 +111,13 @@ pub(crate) fn front_of(bytes: &[u8]) -> Result<Front, LexKind>
 pub(crate) fn begins_token(bytes: &[u8]) -> bool
     ensures { result ≡ begins_token bytes.now }
 {
-    !bytes.is_empty()
-        && !matches!(
-            front_of(bytes),
-            Ok(Front::Space) | Err(LexKind::Tab | LexKind::Byte)
-        )
+    let first = match bytes {
+        [] => return false,
+        [first, ..] => *first,
+    };
+    match first {
+        b' ' | b'\t' => false,
+        b'"' => true,
+        _ => is_word_byte(first) || sign_at(bytes).is_some(),
+    }
 }

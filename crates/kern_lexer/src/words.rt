@@ -80,6 +80,11 @@ pub(crate) fn read_words(
     let mut at = start;
     let mut rest = code;
     while !rest.is_empty() {
+        if rest[0] == b' ' {
+            at += 1;
+            rest = &rest[1..];
+            continue;
+        }
         let len = read_front(tokens, brackets, line, at, rest)?;
         at += len;
         rest = &rest[len..];
