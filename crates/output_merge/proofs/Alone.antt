@@ -39,15 +39,18 @@ in-group events p here =
     (rw (eq-eqb p.1.channel p.1.channel refl, eq-eqb (cycle_of p.1) (cycle_of p.1) refl) refl)
 
 -- alone in a group it is put out
-alone-kept : (p : ℕ × Event) → is_collision (part_in (p ∷ []) p) ≡ false
-alone-kept p = by-channel (replaces p.1.channel)
+pub alone-keeper : (p : ℕ × Event) → part_in (p ∷ []) p ≡ Keeper
+alone-keeper p = by-channel (replaces p.1.channel)
   where
     stamp : int_eq p.1.stamp p.1.stamp ≡ true
     stamp = grind (arith, nat_tests)
 
-    by-channel : (b : Bool) → is_collision (cond b (cond (int_eq p.1.stamp p.1.stamp) (cond (p.0 == p.0) Keeper Overridden) Collision) (cond (p.0 == p.0) Keeper Collision)) ≡ false
+    by-channel : (b : Bool) → cond b (cond (int_eq p.1.stamp p.1.stamp) (cond (p.0 == p.0) Keeper Overridden) Collision) (cond (p.0 == p.0) Keeper Collision) ≡ Keeper
     by-channel true = rw (stamp, eq-eqb p.0 p.0 refl) refl
     by-channel false = rw (eq-eqb p.0 p.0 refl) refl
+
+alone-kept : (p : ℕ × Event) → is_collision (part_in (p ∷ []) p) ≡ false
+alone-kept p = ap is_collision (alone-keeper p)
 
 -- one that collides has company
 collides-in : (group : List (ℕ × Event)) (p : ℕ × Event) → IsIn p group → is_collision (part_in group p) ≡ true → nat_lt 1 (length group) ≡ true

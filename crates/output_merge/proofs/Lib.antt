@@ -14,3 +14,4 @@ pub mod Greatest
 pub mod Alone
 pub mod Staying
 mod Sieves
+mod Single

@@ -1,6 +1,6 @@
 // Channels that are busy executing an event.
 
-ghost use Rattle.std.specs.Prelude.{◌≡◌, ◌≤◌, ◌+◌, ◌++◌, [], ℕ, List, IsTrue, filter, length, not};
+ghost use Rattle.std.specs.Prelude.{◌≡◌, ◌≤◌, ◌<◌, ◌+◌, ◌++◌, [], ℕ, List, IsTrue, filter, length, not};
 ghost use Rattle.rtio_types.specs.declared.event.Event.{Event};
 ghost use Rattle.sed_lanes.specs.Sorting.{sorted};
 ghost use Rattle.output_merge.specs.Groups.{is_logged_before};
@@ -82,8 +82,31 @@ impl Holds {
         ensures kept_room { kept.new.room + length kept.new.items ≡ kept.old.room + length kept.old.items }
         ensures busy_room { busy.new.room + length busy.new.items ≡ busy.old.room + length busy.old.items }
     {
+        if kept.len() == 1 {
+            self.sieve_alone(cycle, kept, busy);
+            return;
+        }
         take_busy(&self.free_from, cycle, kept, busy);
         self.hold_all(kept);
+    }
+
+    // Takes the only keeper of a cycle out if it is busy, and has its channel execute it if not.
+    fn sieve_alone(&mut self, cycle: u64, kept: &mut Heads, busy: &mut Heads)
+        requires alone { length kept.old.items ≡ 1 }
+        requires one_cycle { IsTrue (are_of_cycle cycle kept.old.items) }
+        requires busy_room { 0 < busy.old.room }
+        ensures sieved { (holds : List ℕ) (out : List (ℕ × Event)) → self.old ≡ holds_after holds out → IsTrue (are_before cycle out)
+            → IsSieved holds out kept.old busy.old self.new kept.new busy.new }
+        ensures kept_room { kept.new.room + length kept.new.items ≡ kept.old.room + length kept.old.items }
+        ensures busy_room { busy.new.room + length busy.new.items ≡ busy.old.room + length busy.old.items }
+    {
+        let (number, event) = kept.item(0);
+        if is_held(&self.free_from, cycle, &event) {
+            kept.clear();
+            busy.push(number, event);
+        } else {
+            self.hold(&event);
+        }
     }
 
     // Has the channels of events execute them.

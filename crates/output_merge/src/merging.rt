@@ -1,6 +1,6 @@
 // The merge of one cycle's events.
 
-ghost use Rattle.std.specs.Prelude.{◌≡◌, ◌≤◌, ◌<◌, ◌+◌, ◌++◌, [], ℕ, IsTrue, drop, if◌then◌else◌, length, nat_eq, take};
+ghost use Rattle.std.specs.Prelude.{◌≡◌, ◌≤◌, ◌<◌, ◌+◌, ◌-◌, ◌++◌, [], ℕ, IsTrue, drop, if◌then◌else◌, length, nat_eq, take};
 ghost use Rattle.std.specs.List.{IsDistinct};
 ghost use Rattle.std.specs.Map.{keys_of};
 ghost use Rattle.sed_lanes.specs.Heads.{by_number};
@@ -30,6 +30,18 @@ fn insert_if(is_wanted: bool, into: &mut Heads, from: u32, order: Order, number:
     }
 }
 
+// Moves an event that is alone in its cycle: it is put out.
+fn keep_alone(heads: &mut Heads, kept: &mut Heads)
+    requires alone { length heads.old.items ≡ 1 }
+    requires room { 0 < kept.old.room }
+    ensures kept { kept.new ≡ record { items = kept.old.items ++ heads.old.items; room = kept.old.room - 1 } }
+    ensures heads { heads.new ≡ record { items = []; room = heads.old.room + length heads.old.items } }
+{
+    let (number, event) = heads.item(0);
+    kept.push(number, event);
+    heads.clear();
+}
+
 /// Sorts the events of one cycle out (ARTIQ manual, "RTIO": replacement and collision). On a channel that replaces, the
 /// last event of the first one's stamp is put out, and overrides the others of that stamp; on another channel the first
 /// is put out. All others collide. Those that are put out come behind what `kept` has, by stamp and channel, those that
@@ -45,6 +57,10 @@ pub fn merge(heads: &mut Heads, kept: &mut Heads, collided: &mut Heads)
     ensures collided_room { collided.new.room + length collided.new.items ≡ collided.old.room + length collided.old.items }
     ensures heads { heads.new ≡ record { items = []; room = heads.old.room + length heads.old.items } }
 {
+    if heads.len() == 1 {
+        keep_alone(heads, kept);
+        return;
+    }
     heads.sort_by_number();
     let kept_before = kept.len();
     let collided_before = collided.len();

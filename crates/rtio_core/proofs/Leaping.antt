@@ -166,33 +166,38 @@ waits-undecided a (waiting.Edge channel up_to) n h is quiet lt = by-decided (is_
     by-decided true decided less = absurd (omega (arith, less))
     by-decided false waits less = edge-waits-to a channel n up_to h quiet input waits less
 
--- the counter goes as far, where nothing happens before
-pub goes-within : (a : Inside) (to : ℕ) → IsCoreInside a → IsQuiet a to → a.count < to → to ≤ goes_to (core_state a) → to ≤ core_top (core_state a)
-goes-within a to h quiet more le = by-session (open_session a.entries.items) refl
+-- the counter goes beyond each number that is quiet and less
+pub goes-beyond : (a : Inside) (n : ℕ) → IsCoreInside a → IsQuiet a n → n < goes_to (core_state a) → n < core_top (core_state a)
+goes-beyond a n h quiet lt = by-session (open_session a.entries.items) refl
   where
-    in-session : (w : Option Waiting) → a.pending ≡ w → to ≤ a.config.horizon → to ≤ max (limit a.config.cost a.entries.items / 8) (waits_to (core_state a) w) → to ≤ min a.config.horizon (top_in_session a.config a.entries.items (option_map request_waiting w))
+    in-session : (w : Option Waiting) → a.pending ≡ w → n < a.config.horizon → n < max (limit a.config.cost a.entries.items / 8) (waits_to (core_state a) w) → n < min a.config.horizon (top_in_session a.config a.entries.items (option_map request_waiting w))
     in-session None is low reach = omega (arith, low, reach)
-    in-session (Some w) is low reach = by-order (cases_lt (limit a.config.cost a.entries.items / 8) to)
+    in-session (Some w) is low reach = by-order (cases_lt n (limit a.config.cost a.entries.items / 8))
       where
-        by-order : (limit a.config.cost a.entries.items / 8 < to) ⊎ (to ≤ limit a.config.cost a.entries.items / 8) → to ≤ min a.config.horizon (max (limit a.config.cost a.entries.items / 8) (first_decided a.config a.entries.items (request_waiting w)))
-        by-order (inr near) = omega (arith, low, near)
-        by-order (inl far) =
-            let waits : to ≤ waits_to (core_state a) (Some w) = omega (arith, reach, far) in
-            let before : IsQuiet a (to - 1) = earlier a to quiet more in
-            let fails : is_decided a.config a.entries.items (request_waiting w) (to - 1) ≡ false = waits-undecided a w (to - 1) h is before (omega (arith, waits, more)) in
-            let first : to - 1 < first_decided a.config a.entries.items (request_waiting w) =
-            first-later (is_decided a.config a.entries.items (request_waiting w)) (last_at a.entries.items) (a.config.horizon - last_at a.entries.items) (to - 1)
-            (λ m n early less. decided-later a.config a.entries.items (request_waiting w) m n h.inputs.ok h.core.lawful early less)
-            (omega (arith, h.core.reached, more)) (omega (arith, h.core.reached, more, low)) fails in
-            omega (arith, low, first, more)
+        by-order : (n < limit a.config.cost a.entries.items / 8) ⊎ (limit a.config.cost a.entries.items / 8 ≤ n) → n < min a.config.horizon (max (limit a.config.cost a.entries.items / 8) (first_decided a.config a.entries.items (request_waiting w)))
+        by-order (inl near) = omega (arith, low, near)
+        by-order (inr far) =
+            let waits : n < waits_to (core_state a) (Some w) = omega (arith, reach, far) in
+            let fails : is_decided a.config a.entries.items (request_waiting w) n ≡ false = waits-undecided a w n h is quiet waits in
+            let first : n < first_decided a.config a.entries.items (request_waiting w) =
+            first-later (is_decided a.config a.entries.items (request_waiting w)) (last_at a.entries.items) (a.config.horizon - last_at a.entries.items) n
+            (λ m k early less. decided-later a.config a.entries.items (request_waiting w) m k h.inputs.ok h.core.lawful early less)
+            (omega (arith, h.core.reached, quiet.later)) (omega (arith, h.core.reached, quiet.later, low)) fails in
+            omega (arith, low, first)
 
-    by-session : (o : Option (ℕ × ℕ)) → open_session a.entries.items ≡ o → to ≤ core_top (core_state a)
+    by-session : (o : Option (ℕ × ℕ)) → open_session a.entries.items ≡ o → n < core_top (core_state a)
     by-session None is =
-        let reach : to ≤ min (greatest_cycle (live (judged_history a.config a.entries.items))) a.config.horizon = rw is at le in
+        let reach : n < min (greatest_cycle (live (judged_history a.config a.entries.items))) a.config.horizon = rw is at lt in
         rw is (omega (arith, reach))
     by-session (Some running) is =
-        let reach : to ≤ min (max (limit a.config.cost a.entries.items / 8) (waits_to (core_state a) a.pending)) a.config.horizon = rw is at le in
+        let reach : n < min (max (limit a.config.cost a.entries.items / 8) (waits_to (core_state a) a.pending)) a.config.horizon = rw is at lt in
         rw is (in-session a.pending refl (omega (arith, reach)) (omega (arith, reach)))
+
+-- so it goes as far, where nothing happens before
+goes-within : (a : Inside) (to : ℕ) → IsCoreInside a → IsQuiet a to → a.count < to → to ≤ goes_to (core_state a) → to ≤ core_top (core_state a)
+goes-within a to h quiet more le =
+    let beyond : to - 1 < core_top (core_state a) = goes-beyond a (to - 1) h (earlier a to quiet more) (omega (arith, le, more)) in
+    omega (arith, beyond, more)
 
 -- a leap behind some cycles
 pub record IsLeaping (old now : CoreState) (most left : ℕ) : Type 0 where
@@ -228,3 +233,10 @@ passed-over a s next edge passed see h is un fits = by-order (cases_lt 0 passed)
         let same : a.count ≡ a.count + passed = omega (arith, none) in
         let within : a.count + passed ≤ core_top (core_state a) = subst (λ (n : ℕ). n ≤ core_top (core_state a)) same h.core.bounded in
         (subst (λ (n : ℕ). IsCoreInside (record a { count = n })) same h, subst (λ (x : CoreState). x.counter + passed ≤ core_top x) see within)
+
+-- and it may go on, where it was to go further
+pub passed-beyond : (a : Inside) (s : CoreState) (next : Option ℕ) (edge passed : ℕ) → core_state a ≡ s → IsCoreInside a → next ≡ next_cycle a.inputs → edge ≡ unwrap_or next 18446744073709551615 → a.count + passed < goes_to s → a.count + passed < min a.outputs.next edge → s.counter + passed < core_top s
+passed-beyond a s next edge passed see h is un lt early =
+    let quiet : IsQuiet a (a.count + passed) = is-quiet a (a.count + passed) edge next h (omega (arith)) (omega (arith, early)) is un (omega (arith, early)) in
+    let beyond : a.count + passed < core_top (core_state a) = goes-beyond a (a.count + passed) h quiet (subst (λ (x : CoreState). a.count + passed < goes_to x) (sym see) lt) in
+    subst (λ (x : CoreState). x.counter + passed < core_top x) see beyond

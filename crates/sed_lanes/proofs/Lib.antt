@@ -8,7 +8,6 @@ pub mod Standing
 mod Numbered
 pub mod Uniques
 mod Risings
-mod Rings
 mod Takings
 mod Accepting
 mod Made

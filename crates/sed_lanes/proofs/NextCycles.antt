@@ -10,6 +10,7 @@ use Rattle.rtio_types.specs.declared.event.Event.{Event}
 use Rattle.rtio_types.specs.Time.{cycle_of}
 use Rattle.sed_lanes.specs.Lanes.{LaneState, LanesState}
 use Rattle.sed_lanes.specs.Next.{first_cycle, least_of, lesser, next_cycle}
+use Rattle.sed_lanes.specs.Queue.{IsFirst}
 use Rattle.sed_lanes.specs.Rows.{AreLanes, IsLane, all_held, are_rising, row_state}
 use Rattle.sed_lanes.specs.declared.lane.Lane.{Lane}
 use Rattle.sed_lanes.proofs.Accepting.{state_of}
@@ -58,18 +59,31 @@ least-more lanes lane rising =
     let grown : all_held (lanes ++ lane ∷ []) ≡ all_held lanes ++ all_held (lane ∷ []) = ap (flat_map (λ (l : LaneState). l.held)) (map-append row_state lanes (lane ∷ [])) ∙ flat_map-append (λ (l : LaneState). l.held) (map row_state lanes) (map row_state (lane ∷ [])) in
     ap (lesser (least_in lanes)) one ∙ sym (ap least_of (ap cycles grown ∙ map-append (λ p. cycle_of p.1) (all_held lanes) (all_held (lane ∷ []))) ∙ least-append (cycles (all_held lanes)) (cycles (all_held (lane ∷ []))))
 
+-- the lesser of two cycles, where the code keeps the one that is missing as a number above all
+kept-lesser : (m n : ℕ) (one other : Option ℕ) → IsFirst m one → IsFirst n other → IsFirst (min m n) (lesser one other)
+kept-lesser m n None None one other = omega (arith, one, other)
+kept-lesser m n None (Some b) one other = let is = other.0 in let small = other.1 in (omega (arith, one, is, small), small)
+kept-lesser m n (Some a) None one other = let is = one.0 in let small = one.1 in (omega (arith, is, small, other), small)
+kept-lesser m n (Some a) (Some b) one other =
+    let first = one.0 in
+    let second = other.0 in
+    let small = one.1 in
+    (omega (arith, first, second), omega (arith, small))
+
 -- the next lane of the code
-pub next-more : (depth current i : ℕ) (lanes items : List Lane) (lane : Lane) (next : Option ℕ) → AreLanes depth current lanes → items ≡ lanes → i < length items → lane ≡ get_or items i lane → next ≡ least_in (take i items) → lesser next (first_cycle (row_state lane)) ≡ least_in (take (i + 1) items)
-next-more depth current i lanes items lane next are same lt is so_far =
+pub next-more : (depth current i : ℕ) (lanes items : List Lane) (lane : Lane) (least first : ℕ) → AreLanes depth current lanes → items ≡ lanes → i < length items → lane ≡ get_or items i lane → IsFirst least (least_in (take i items)) → IsFirst first (first_cycle (row_state lane)) → IsFirst (min least first) (least_in (take (i + 1) items))
+next-more depth current i lanes items lane least first are same lt is so_far here =
     let below : i < length lanes = subst (λ (ls : List Lane). i < length ls) same lt in
-    let here : IsLane depth (get_or lanes i lane) = All-get_or (IsLane depth) lanes i lane below are.each in
-    let rising : are_rising lane.held.items ≡ true = subst (λ (l : Lane). are_rising l.held.items ≡ true) (sym (is ∙ ap (λ (ls : List Lane). get_or ls i lane) same)) here.rising in
-    ap (λ n. lesser n (first_cycle (row_state lane))) so_far ∙ least-more (take i items) lane rising ∙ ap least_in (ap (λ l. take i items ++ l ∷ []) is ∙ sym (take_more items i lane lt))
+    let there : IsLane depth (get_or lanes i lane) = All-get_or (IsLane depth) lanes i lane below are.each in
+    let rising : are_rising lane.held.items ≡ true = subst (λ (l : Lane). are_rising l.held.items ≡ true) (sym (is ∙ ap (λ (ls : List Lane). get_or ls i lane) same)) there.rising in
+    let grown : lesser (least_in (take i items)) (first_cycle (row_state lane)) ≡ least_in (take (i + 1) items) = least-more (take i items) lane rising ∙ ap least_in (ap (λ l. take i items ++ l ∷ []) is ∙ sym (take_more items i lane lt)) in
+    subst (IsFirst (min least first)) grown (kept-lesser least first (least_in (take i items)) (first_cycle (row_state lane)) so_far here)
 
 -- all lanes of the code
-pub next-all : (depth current i : ℕ) (lanes items : List Lane) (s : LanesState) (next : Option ℕ) → state_of depth current lanes ≡ s → items ≡ lanes → length items ≤ i → next ≡ least_in (take i items) → next ≡ next_cycle s
-next-all depth current i lanes items s next see same done is =
-    is ∙ ap least_in (take_all i items done ∙ same) ∙ ap next_cycle see
+pub next-all : (depth current i : ℕ) (lanes items : List Lane) (s : LanesState) (least : ℕ) → state_of depth current lanes ≡ s → items ≡ lanes → length items ≤ i → IsFirst least (least_in (take i items)) → IsFirst least (next_cycle s)
+next-all depth current i lanes items s least see same done keeps =
+    let whole : least_in (take i items) ≡ next_cycle s = ap least_in (take_all i items done ∙ same) ∙ ap next_cycle see in
+    subst (IsFirst least) whole keeps
 
 -- none is missing where an event is held
 pub none-least : (ns : List ℕ) → least_of ns ≡ None → ns ≡ []

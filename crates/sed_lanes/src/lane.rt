@@ -5,11 +5,12 @@ ghost use Rattle.std.specs.List.{list_all};
 ghost use Rattle.rtio_types.specs.Time.{cycle_of};
 ghost use Rattle.sed_lanes.specs.Lanes.{is_later};
 ghost use Rattle.sed_lanes.specs.Next.{first_cycle};
+ghost use Rattle.sed_lanes.specs.Queue.{IsFirst};
 ghost use Rattle.sed_lanes.specs.Rows.{are_rising, row_state};
 ghost use Rattle.sed_lanes.specs.Verdict.{frees_at};
 
 use crate::heads::Heads;
-use circular_buffer::HeapCircularBuffer;
+use crate::queue::Queue;
 use rtio_types::{Event, cycle_of};
 use std::alloc::{AllocError, Global};
 
@@ -17,7 +18,7 @@ use std::alloc::{AllocError, Global};
 /// it took, held or not.
 #[derive(Debug, Drop)]
 pub struct Lane {
-    pub held: HeapCircularBuffer<(u64, Event)>,
+    pub held: Queue,
     pub last: Option<u64>,
 }
 
@@ -28,7 +29,7 @@ impl Lane {
         ensures room { IfOk result (λ lane. lane.held.capacity ≡ depth) }
     {
         Ok(Lane {
-            held: HeapCircularBuffer::with_capacity(alloc, depth as usize)?,
+            held: Queue::with_capacity(alloc, depth as usize)?,
             last: None,
         })
     }
@@ -54,20 +55,15 @@ impl Lane {
     pub fn frees_at(&self) -> u64
         ensures { result ≡ frees_at (row_state self.now) }
     {
-        match self.held.front() {
-            None => 0,
-            Some((_, event)) => cycle_of(event),
-        }
+        let first = self.held.first();
+        if first == u64::MAX { 0 } else { first }
     }
 
-    /// The cycle of the first held event, if one is held.
-    pub fn next_cycle(&self) -> Option<u64>
-        ensures { result ≡ first_cycle (row_state self.now) }
+    /// The cycle of the first held event; `u64::MAX`, which no cycle is, if none is held.
+    pub fn first(&self) -> u64
+        ensures { IsFirst result (first_cycle (row_state self.now)) }
     {
-        match self.held.front() {
-            None => None,
-            Some((_, event)) => Some(cycle_of(event)),
-        }
+        self.held.first()
     }
 
     /// Takes an event behind those that it holds.
@@ -78,7 +74,7 @@ impl Lane {
         ensures small { cycle_of event < 2 ^ 60 }
         ensures room { self.new.held.capacity ≡ self.old.held.capacity }
     {
-        self.held.push_back((number, event));
+        self.held.push_back(number, event);
         self.last = Some(cycle_of(&event));
     }
 
@@ -91,7 +87,7 @@ impl Lane {
         ensures last { self.new.last ≡ self.old.last }
         ensures room { self.new.held.capacity ≡ self.old.held.capacity }
     {
-        if self.frees_at() == cycle {
+        if self.first() == cycle {
             self.held.pop_front()
         } else {
             None

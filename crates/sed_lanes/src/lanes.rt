@@ -6,7 +6,7 @@ ghost use Rattle.sed_lanes.specs.Calls.{Answers, LanesStandFor, after_verdict, a
 ghost use Rattle.sed_lanes.specs.Heads.{by_number};
 ghost use Rattle.sed_lanes.specs.Judged.{Clear, LaneStep, Submit, judged, next_number};
 ghost use Rattle.sed_lanes.specs.Lanes.{empty_lanes, held_events, is_full_lane, lane_at, may_enter, next_lane, with_accepted};
-ghost use Rattle.sed_lanes.specs.Next.{lesser, next_cycle};
+ghost use Rattle.sed_lanes.specs.Next.{next_cycle};
 ghost use Rattle.sed_lanes.specs.Verdict.{Undecided, until, verdict};
 
 use crate::heads::Heads;
@@ -147,11 +147,11 @@ impl Lanes {
     pub fn next_cycle(&self) -> Option<u64>
         ensures { result ≡ next_cycle self.now }
     {
-        let mut next = None;
+        let mut least = u64::MAX;
         for lane in &self.lanes {
-            next = lesser(next, lane.next_cycle());
+            least = least.min(lane.first());
         }
-        next
+        if least == u64::MAX { None } else { Some(least) }
     }
 
     /// Whether an event has to wait at this counter of cycles: the verdict on it doesn't stand, for want of room in the lanes
@@ -245,16 +245,5 @@ impl Lanes {
             lane.empty_into(into);
         }
         into.sort_by_number();
-    }
-}
-
-// The lesser of two numbers, where one may be missing.
-fn lesser(one: Option<u64>, other: Option<u64>) -> Option<u64>
-    ensures { result ≡ lesser one other }
-{
-    match (one, other) {
-        (Some(one), Some(other)) => Some(one.min(other)),
-        (one, None) => one,
-        (None, other) => other,
     }
 }

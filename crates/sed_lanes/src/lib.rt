@@ -6,6 +6,7 @@ mod heads;
 mod lane;
 mod lanes;
 mod laws;
+mod queue;
 
 pub use heads::Heads;
 pub use lanes::{Lanes, Place};

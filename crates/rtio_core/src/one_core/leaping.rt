@@ -1,11 +1,20 @@
 // Many cycles of a core at once.
 
-ghost use Rattle.std.specs.Prelude.{◌≡◌, ◌≤◌, ◌+◌, ◌-◌, min};
+ghost use Rattle.std.specs.Prelude.{◌≡◌, ◌≤◌, ◌<◌, ◌+◌, ◌-◌, IsTrue, min};
 ghost use Rattle.rtio_core.specs.Core.{core_top};
 ghost use Rattle.rtio_core.specs.Leaps.{goes_to, waits_to};
 
 use super::Core;
 use rtio_types::{MU_PER_CYCLE, Waiting, counter_reaching};
+
+// What was passed over.
+#[derive(Clone, Copy)]
+struct Passed {
+    // How many cycles.
+    cycles: u64,
+    // Whether the counter may rise further for certain.
+    goes_on: bool,
+}
 
 impl Core {
     /// Raises the counter by up to `max` cycles and answers by how many: the core is as after so many ticks that went. They
@@ -20,30 +29,38 @@ impl Core {
         let mut left = max;
         while left > 0 && !self.stopped() {
             let passed = self.pass(left);
-            left -= passed;
-            if passed == 0 {
-                self.tick();
+            left -= passed.cycles;
+            if left > 0 && (passed.goes_on || passed.cycles == 0) {
+                self.go();
                 left -= 1;
             }
         }
         max - left
     }
 
-    // Passes over cycles in which nothing happens, at most so many, and answers how many they were.
-    fn pass(&mut self, most: u64) -> u64
-        ensures most { result ≤ most }
-        ensures within { self.old.counter + result ≤ core_top self.old }
-        ensures after { self.new ≡ record self.old { counter = self.old.counter + result } }
+    // Passes over cycles in which nothing happens, at most so many.
+    fn pass(&mut self, most: u64) -> Passed
+        ensures most { result.cycles ≤ most }
+        ensures within { self.old.counter + result.cycles ≤ core_top self.old }
+        ensures goes_on { IsTrue result.goes_on → self.old.counter + result.cycles < core_top self.old }
+        ensures after { self.new ≡ record self.old { counter = self.old.counter + result.cycles } }
     {
         let edge = self.inputs.next_cycle().unwrap_or(u64::MAX);
-        let first = self.outputs.next.min(edge);
-        let to = self
-            .goes_to()
-            .min(first.saturating_sub(1))
-            .min(self.count.saturating_add(most));
-        let passed = to.saturating_sub(self.count);
-        self.count += passed;
-        passed
+        let quiet = self.outputs.next.min(edge).saturating_sub(1);
+        if quiet <= self.count {
+            return Passed {
+                cycles: 0,
+                goes_on: false,
+            };
+        }
+        let reach = self.goes_to();
+        let to = reach.min(quiet).min(self.count.saturating_add(most));
+        let cycles = to.saturating_sub(self.count);
+        self.count += cycles;
+        Passed {
+            cycles,
+            goes_on: to < reach,
+        }
     }
 
     // Up to which counter it goes on, if nothing is put out and no edge comes before.

@@ -25,12 +25,20 @@ impl Core {
                 limit: self.told_limit(),
             };
         }
+        self.go();
+        Tick::Went
+    }
+
+    // Raises the counter by one cycle, which it may.
+    pub(super) fn go(&mut self)
+        requires { self.old.counter < core_top self.old }
+        ensures { self.new ≡ record self.old { counter = self.old.counter + 1 } }
+    {
         let before = self.outputs.count();
         self.outputs.advance(self.count);
         self.count += 1;
         let kept = self.outputs.put_out_after(before);
         self.inputs.cycle(self.count, kept);
-        Tick::Went
     }
 
     /// Whether the next tick wouldn't raise the counter.

@@ -1,4 +1,4 @@
-use Rattle.std.proofs.Common.{◌≡◌, ◌+◌, ◌-◌, ℕ, true, List, refl, ap, ◌∙◌, subst, arith}
+use Rattle.std.proofs.Common.{◌≡◌, ◌+◌, ◌-◌, ◌++◌, ℕ, true, List, append-nil, refl, ap, ◌∙◌, subst, sym, arith}
 use Rattle.std.specs.Prelude.{nat_eq}
 use Rattle.rtio_types.specs.declared.event.Event.{Event}
 use Rattle.rtio_types.specs.Time.{cycle_of}
@@ -6,9 +6,20 @@ use Rattle.sed_lanes.specs.Heads.{HeadsState, is_earlier}
 use Rattle.output_merge.specs.Groups.{is_collision, is_keeper, is_logged_before, is_put_out_before, part_of}
 use Rattle.output_merge.specs.Merge.{are_of_cycle}
 use Rattle.output_merge.specs.Summaries.{part_by}
+use Rattle.output_merge.proofs.Single.{single-collisions, single-kept}
 use Rattle.output_merge.proofs.SortedOut.{Behind, behind-more}
 use Rattle.output_merge.proofs.Summing.{all-sorted, part-of-item}
 use Rattle.output_merge.proofs.merging.merge.Goals as goal
+
+pub returns-then-len-eq1-clause-kept : goal.returns-then-len-eq1-clause-kept
+returns-then-len-eq1-clause-kept c =
+    ap (λ (h : HeadsState). h.items) c.keep_alone.ensures.kept
+    ∙ ap (λ (ps : List (ℕ × Event)). c.args.kept.now.items ++ ps) (sym (single-kept c.args.heads.now.items (sym c.len.ensures ∙ c.if-len-eq1.true)))
+
+pub returns-then-len-eq1-clause-collided : goal.returns-then-len-eq1-clause-collided
+returns-then-len-eq1-clause-collided c =
+    sym (append-nil c.args.collided.now.items)
+    ∙ ap (λ (ps : List (ℕ × Event)). c.args.collided.now.items ++ ps) (sym (single-collisions c.args.heads.now.items (sym c.len.ensures ∙ c.if-len-eq1.true)))
 
 pub loop-left-preserved : goal.loop-left-preserved
 loop-left-preserved c =

@@ -1,7 +1,7 @@
-use Rattle.std.proofs.Common.{arith, refl}
+use Rattle.std.proofs.Common.{arith}
 use Rattle.rtio_input.proofs.Undecided.{passes-next}
 use Rattle.rtio_core.proofs.Cycled.{put-out-longer, put-out-of-cycle, tick_keeps}
-use Rattle.rtio_core.proofs.one_core.Core.tick.Goals as goal
+use Rattle.rtio_core.proofs.one_core.Core.go.Goals as goal
 
 pub put_out_after-kept-requires : goal.put_out_after-kept-requires
 put_out_after-kept-requires c =
@@ -17,5 +17,5 @@ cycle-requires-clause-put_out c =
 
 pub invariant_of-self : goal.invariant_of-self
 invariant_of-self c =
-    tick_keeps c.self.inside c.args.self.now c.advance.new.self c.cycle.new.self c.count-before.result c.put_out_after-kept.result.now c.self.view_is c.self.invariant (c.if-not-goes_on.ensures.0 refl)
+    tick_keeps c.self.inside c.args.self.now c.advance.new.self c.cycle.new.self c.count-before.result c.put_out_after-kept.result.now c.self.view_is c.self.invariant c.requires
     (c.advance.ensures _ _ _ _ c.self.invariant.played) c.count-before.ensures c.put_out_after-kept.ensures c.cycle.ensures.stands
