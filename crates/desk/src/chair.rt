@@ -1,6 +1,7 @@
 // What a thread has of a desk: its chair, the value while it holds it, and notes of what was seen.
 ghost use Rattle.std.specs.Prelude.{◌≡◌};
 
+use crate::boxed::Boxed;
 use desk_rule::{Booked, DeskSeat};
 use std::marker::Model;
 use std::snapshot::Snapshot;
@@ -12,7 +13,7 @@ use std::snapshot::Snapshot;
 #[derive(Drop)]
 pub struct Chair<T: Booked> {
     pub(crate) number: u32,
-    pub(crate) seat: DeskSeat<T>,
+    pub(crate) seat: DeskSeat<Boxed<T>>,
 }
 
 impl<T: Booked> Model for Chair<T> {
@@ -29,7 +30,7 @@ impl<T: Booked> Model for Chair<T> {
 
 /// The value, while a chair holds it. It has to be put back: a `Held` can't be dropped.
 pub struct Held<T: Booked> {
-    pub(crate) value: T,
+    pub(crate) value: Boxed<T>,
     /// The chair, as the taking left it.
     pub(crate) by: Snapshot<Chair<T>>,
 }
@@ -37,7 +38,7 @@ pub struct Held<T: Booked> {
 /// What a chair had seen, for another chair of the same desk.
 #[derive(Drop)]
 pub struct Note<T: Booked> {
-    pub(crate) seat: DeskSeat<T>,
+    pub(crate) seat: DeskSeat<Boxed<T>>,
 }
 
 impl<T: Booked> Model for Note<T> {

@@ -36,6 +36,6 @@ impl<T: Booked> Desk<T> {
             } = other;
             take_in(&table.shared, &mut seat, joined);
         }
-        close_table(table, seat)
+        close_table(table, seat).into_inner()
     }
 }

@@ -1,4 +1,5 @@
 // The desk itself.
+use crate::boxed::Boxed;
 use desk_rule::{Booked, DeskTable};
 use std::marker::Model;
 
@@ -8,7 +9,7 @@ use std::marker::Model;
 /// which one it is, the fixed part of the value that it was opened with, and how many chairs it has.
 #[derive(Drop)]
 pub struct Desk<T: Booked> {
-    pub(crate) table: DeskTable<T>,
+    pub(crate) table: DeskTable<Boxed<T>>,
 }
 
 impl<T: Booked> Model for Desk<T> {

@@ -12,6 +12,6 @@ impl<T: Booked> Held<T> {
         ensures* writes_back { sem 𝓛 (LendsValue T.row T.Act.row T.Fixed.row T.Booked self.entry result) }
         ensures value { result.now ≡ self.old.value }
     {
-        &mut self.value
+        self.value.lend()
     }
 }

@@ -4,6 +4,7 @@ ghost use Rattle.desk_rule.specs.Kept.{first_view};
 ghost use Rattle.desk.specs.Seated.{new_chairs};
 ghost use Rattle.desk.specs.Counters.{id_of};
 
+use crate::boxed::Boxed;
 use crate::chair::Chair;
 use crate::counter::Desk;
 use desk_rule::{Booked, DeskSeat, DeskShared, make_chair, open_table};
@@ -11,8 +12,8 @@ use std::alloc::Global;
 
 // Makes the other chairs from the first one's seat, and puts all into the room for them, by number.
 fn seat_all<T: Booked>(
-    shared: &DeskShared<T>,
-    first: DeskSeat<T>,
+    shared: &DeskShared<Boxed<T>>,
+    first: DeskSeat<Boxed<T>>,
     chairs: u32,
     room: &mut Vec<Chair<T>>,
 )
@@ -53,12 +54,16 @@ impl<T: Booked> Desk<T> {
         let Ok(mut room) = Vec::with_capacity(alloc, chairs as usize) else {
             return Err(value);
         };
-        match open_table(alloc, value, chairs) {
+        let boxed = match Boxed::new(alloc, value) {
+            Ok(boxed) => boxed,
+            Err(value) => return Err(value),
+        };
+        match open_table(alloc, boxed, chairs) {
             Ok((table, first)) => {
                 seat_all(&table.shared, first, chairs, &mut room);
                 Ok((Desk { table }, room))
             }
-            Err(value) => Err(value),
+            Err(boxed) => Err(boxed.into_inner()),
         }
     }
 }

@@ -58,12 +58,12 @@ close_table-requires-clause-all g c =
 
 -- what the value says of all chairs
 closed : (g : Over) (c : goal.After-drop-chairs g)
-    → Ending g.T.Booked.history g.T.Booked.fixed c.self.inside.table.shared.key.chairs (g.T.Booked.fixed c.self.inside.table.shared.key.first.value) c.args.chairs.items c.close_table.result
+    → Ending g.T.Booked.history g.T.Booked.fixed c.self.inside.table.shared.key.chairs (g.T.Booked.fixed c.self.inside.table.shared.key.first.value) c.args.chairs.items c.into_inner.result
 closed g c =
     let i = c.loop-other.invariant in
     let empty = c.in_default-pop.ensures.cases.0 in
     let all = gathered_all _ _ _ i.0 i.2 (omega (arith, c.loop-other.chairs.ok.0)) i.1 in
-    ending _ _ _ _ _ _ _ c.close_table.ensures all
+    rw c.into_inner.ensures (ending _ _ _ _ _ _ _ c.close_table.ensures all)
 
 pub returns-clause-fixed : goal.returns-clause-fixed
 returns-clause-fixed g c = (closed g c).stays ∙ ap (λ d. d.fixed) c.self.view_is
