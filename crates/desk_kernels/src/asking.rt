@@ -13,10 +13,10 @@ use rtio_core::Core;
 use rtio_types::{Outcome, Reply, Request};
 use std::alloc::{AllocError, Global};
 use std::sync::Wait;
-use std::thread;
 
-/// Asks a request of the chair's open session until it is decided; between two holdings the desk is free. None where it isn't
-/// decided at the horizon, and then the session has ended there, with this cursor (mu).
+/// Asks a request of the chair's open session until it is decided; between two holdings the desk is free. The core ticks on in each,
+/// so nothing is gained by waiting between them. None where it isn't decided at the horizon, and then the session has ended there,
+/// with this cursor (mu).
 pub(crate) fn ask_until_decided<R: Wait>(
     rt: &R,
     alloc: Global,
@@ -38,7 +38,6 @@ pub(crate) fn ask_until_decided<R: Wait>(
             Turn::Again(back) => asked = back,
             Turn::Over => return Ok(None),
         }
-        thread::yield_now();
     }
     unreachable!()
 }
