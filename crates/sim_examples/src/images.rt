@@ -2,7 +2,7 @@
 
 use crate::inputs::{GATE, USUAL};
 use crate::kernels::{Kernel, PLAIN, WITH_OPTIONS};
-use crate::options::{LATE, THREE};
+use crate::options::{CAUGHT, LATE, THREE};
 use crate::program::{expect_refused, run};
 use crate::recordings::TWICE;
 use crate::reports::{PAIR, PARALLEL};
@@ -61,9 +61,7 @@ fn other_images_are_refused(rt: HostRuntime) -> Result<(), Fail> {
         9,
         "bad code 0\n",
     )?;
-    let mut longer = EMPTY.as_slice().to_vec(alloc)?;
-    longer.push(0)?;
-    expect_refused(&rt, alloc, &exec, &longer, 9, "image 26\n")
+    Ok(())
 }
 
 const FURTHER: &[Kernel] = &[
@@ -77,6 +75,10 @@ const FURTHER: &[Kernel] = &[
     },
     Kernel {
         text: LATE,
+        options: &["--cost", "800"],
+    },
+    Kernel {
+        text: CAUGHT,
         options: &["--cost", "800"],
     },
     Kernel {
@@ -136,18 +138,37 @@ fn exec_reports_an_image_as_sim_its_text(rt: HostRuntime) -> Result<(), Fail> {
 }
 
 // `pass` has no code. Else the lines are four bytes and their operands: a Const has eight, an Out two.
+const WHOLE_REPORTS: &[(&str, &str)] = &[
+    (
+        "def main(): pass",
+        "lanes 0 0 0 0 0 0 0 0\ncode 26 1\nend ok\ncursor 0\ncounter 0\n",
+    ),
+    (
+        PAIR,
+        "out 1000 0 0 1\nout 1500 0 0 0\nlanes 2 0 0 0 0 0 0 0\ncode 94 9\nend ok\ncursor 1500\ncounter 1496\n",
+    ),
+    // A worker of a laboratory tells as many instructions of this kernel (`crates/stage_examples`).
+    (
+        "def main():\n    delay_mu(1000)\n    ttl0.pulse_mu(100)\n",
+        "out 1000 0 0 1\nout 1100 0 0 0\nlanes 2 0 0 0 0 0 0 0\ncode 94 9\nend ok\ncursor 1100\ncounter 1096\n",
+    ),
+];
+
 #[test]
 fn the_line_code_tells_the_image_and_the_instructions(rt: HostRuntime) -> Result<(), Fail> {
     let alloc = rt.alloc();
-    let left = run(alloc, &["sim"], b"def main(): pass".as_slice())?;
-    assert_eq!(rt;
-        left.out.as_slice(),
-        b"lanes 0 0 0 0 0 0 0 0\ncode 26 1\nend ok\ncursor 0\ncounter 0\n".as_slice()
-    );
-    let left = run(alloc, &["sim"], PAIR.as_bytes())?;
-    assert_eq!(rt;
-        left.out.as_slice(),
-        b"out 1000 0 0 1\nout 1500 0 0 0\nlanes 2 0 0 0 0 0 0 0\ncode 94 9\nend ok\ncursor 1500\ncounter 1496\n".as_slice()
-    );
+    for (text, report) in WHOLE_REPORTS {
+        let left = run(alloc, &["sim"], text.as_bytes())?;
+        assert_eq!(rt; left.out.as_slice(), report.as_bytes(), "{}", text);
+    }
     Ok(())
+}
+
+// A whole image has no byte behind it.
+#[test]
+fn an_image_with_a_byte_more_is_refused(rt: HostRuntime) -> Result<(), Fail> {
+    let alloc = rt.alloc();
+    let mut image = run(alloc, &["compile"], PAIR.as_bytes())?.out;
+    image.push(0)?;
+    expect_refused(&rt, alloc, &["exec"], &image, 9, "image 94\n")
 }

@@ -14,18 +14,7 @@ const OPTIONS: &[Row] = &[
     },
     Row {
         words: &["sim", "--cost=800"],
-        text: "def main():
-    at_mu(1000)
-    ttl0.on()
-    at_mu(1500)
-    ttl0.off()
-    at_mu(1600)
-    try:
-        ttl0.on()
-    except RTIOUnderflow:
-        core.break_realtime()
-        ttl0.on()
-",
+        text: CAUGHT,
         status: 0,
         report: "out 1000 0 0 1\nout 1500 0 0 0\nout 127400 0 0 1\nlanes 2 0 0 0 0 0 0 0\nend ok\ncursor 127400\ncounter 127400\n",
     },
@@ -99,6 +88,19 @@ pub const LATE: &str = "def main():
     ttl0.off()
     at_mu(1600)
     ttl0.on()
+";
+
+pub const CAUGHT: &str = "def main():
+    at_mu(1000)
+    ttl0.on()
+    at_mu(1500)
+    ttl0.off()
+    at_mu(1600)
+    try:
+        ttl0.on()
+    except RTIOUnderflow:
+        core.break_realtime()
+        ttl0.on()
 ";
 
 pub const THREE: &str = "def main():

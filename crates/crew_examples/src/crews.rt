@@ -96,3 +96,53 @@ fn one_compiles_while_another_runs_a_kernel(rt: HostRuntime) -> Result<(), Fail>
     assert!(rt; gate.met.load(Ordering::SeqCst));
     Ok(())
 }
+
+// ---- all at once
+
+// Four workers, four pipelines, and a run in each.
+const FOUR: &str =
+    r#"{"workers":4,"pipelines":[{},{},{},{}],"sources":["def main():\n    delay_mu(1000)\n    ttl0.pulse_mu(100)\n"],
+"experiments":[{"source":0,"prepare":[],"run":[{"kernel":"main","args":[]}],"analyze":[]}],
+"arrivals":[{"at":0,"submit":{"experiment":0,"pipeline":0}},{"at":0,"submit":{"experiment":0,"pipeline":1}},
+{"at":0,"submit":{"experiment":0,"pipeline":2}},{"at":0,"submit":{"experiment":0,"pipeline":3}}]}"#;
+
+// Keeps each worker that is about to compile until four are, and tells whether they all were at once.
+#[derive(Drop)]
+struct Gathering {
+    compiling: AtomicU64,
+    gathered: AtomicBool,
+}
+
+impl Gate for Gathering {
+    fn at(&self, _worker: u32, place: Place) {
+        if let Place::Compiling { .. } = place {
+            self.compiling.fetch_add(1, Ordering::SeqCst);
+            self.await_all();
+        }
+    }
+}
+
+impl Gathering {
+    fn await_all(&self) {
+        for _ in 0..MOST_TURNS {
+            if self.compiling.load(Ordering::SeqCst) == 4 {
+                self.gathered.store(true, Ordering::SeqCst);
+                return;
+            }
+            thread::yield_now();
+        }
+    }
+}
+
+#[test]
+fn four_compile_at_once(rt: HostRuntime) -> Result<(), Fail> {
+    let alloc = rt.alloc();
+    let session = read_session(alloc, FOUR.as_bytes())?;
+    let gate = Gathering {
+        compiling: AtomicU64::new(0),
+        gathered: AtomicBool::new(false),
+    };
+    run_laboratory(&rt, alloc, &session, &gate)?;
+    assert!(rt; gate.gathered.load(Ordering::SeqCst));
+    Ok(())
+}
