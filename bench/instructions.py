@@ -25,10 +25,13 @@ STATEMENTS = 8_099
 FEW, MANY = 25_000, 50_000
 DISTANCE = 10
 COLLECTED = re.compile(r"Collected : (\d+)")
+# A function, or one that it calls, with its name where it is met first.
+NAMED = re.compile(r"(c?)fn=\((\d+)\)(?: (.+))?")
+MEMORY_CALLS = ("rattle_alloc", "rattle_realloc")
 
 
-def instructions(argv, text="", statuses=(0,)):
-    """The host instructions of one run on a text. Ends where the run ends with another status."""
+def callgrind(argv, text, statuses):
+    """Runs a program on a text under callgrind: how many host instructions, and what callgrind wrote. Ends where the run ends with another status."""
     with tempfile.TemporaryDirectory() as folder:
         out = os.path.join(folder, "callgrind.out")
         run = subprocess.run(
@@ -37,10 +40,29 @@ def instructions(argv, text="", statuses=(0,)):
             capture_output=True,
             check=False,
         )
+        with open(out, encoding="utf-8", errors="replace") as file:
+            written = file.read()
     found = COLLECTED.search(run.stderr.decode(errors="replace"))
     if run.returncode not in statuses or not found:
         sys.exit(f"{argv[0]} ended with status {run.returncode}")
-    return int(found[1])
+    return int(found[1]), written
+
+
+def instructions(argv, text="", statuses=(0,)):
+    """The host instructions of one run on a text."""
+    return callgrind(argv, text, statuses)[0]
+
+
+def memory_calls(argv):
+    """How often one run asked for memory, or for more of it."""
+    names, called, calls = {}, "", 0
+    for line in callgrind(argv, "", (0,))[1].splitlines():
+        if found := NAMED.match(line):
+            names.setdefault(found[2], found[3])
+            called = names[found[2]] if found[1] else ""
+        elif line.startswith("calls=") and called in MEMORY_CALLS:
+            calls += int(line[6:].split()[0])
+    return calls
 
 
 def processor():
@@ -97,6 +119,9 @@ def main():
         aim, last = figures.get(name, ("", ""))
         now = f"{measure():,.1f}" if os.path.exists(program) else "not built"
         print(f"{name:44} {now:>9} {aim:>9} {last:>9}")
+    if os.path.exists(CORE):
+        few, many = (memory_calls([CORE, str(number), str(DISTANCE), "1"]) for number in (FEW, MANY))
+        print(f"a core asks for memory {few} times for {FEW:,} outputs, and {many} times for {MANY:,}: its lists double")
 
 
 if __name__ == "__main__":

@@ -45,24 +45,37 @@ def session(workers, runs):
     }
 
 
-def served(argv, workers, runs, rounds):
-    """The best time in seconds, the greatest resident set in bytes, and the report's lines."""
+def spawned(argv, text, report):
+    """Runs a program on a file into another: its greatest resident set in bytes."""
+    text.seek(0)
+    files = [(os.POSIX_SPAWN_DUP2, text.fileno(), 0), (os.POSIX_SPAWN_DUP2, report.fileno(), 1)]
+    process = os.posix_spawn(argv[0], argv, os.environ, file_actions=files)
+    _, status, usage = os.wait4(process, 0)
+    if status != 0:
+        sys.exit(f"{argv[0]} ended with status {os.waitstatus_to_exitcode(status)}")
+    return usage.ru_maxrss * 1024
+
+
+def memory_of(program, workers, runs):
+    """The greatest resident set of a session, in bytes. What this process holds itself counts too, so this is asked before it reads a report."""
+    with tempfile.TemporaryFile() as text, open(os.devnull, "wb") as report:
+        text.write(json.dumps(session(workers, runs)).encode("ascii"))
+        return spawned([program], text, report)
+
+
+def served(argv, workers, rounds):
+    """The best time in seconds, and the report's lines."""
     best = float("inf")
     with tempfile.TemporaryFile() as text:
-        text.write(json.dumps(session(workers, runs)).encode("ascii"))
+        text.write(json.dumps(session(workers, RUNS)).encode("ascii"))
         for _ in range(rounds):
             with tempfile.TemporaryFile() as report:
-                text.seek(0)
                 start = time.perf_counter()
-                files = [(os.POSIX_SPAWN_DUP2, text.fileno(), 0), (os.POSIX_SPAWN_DUP2, report.fileno(), 1)]
-                process = os.posix_spawn(argv[0], argv, os.environ, file_actions=files)
-                _, status, usage = os.wait4(process, 0)
+                spawned(argv, text, report)
                 best = min(best, time.perf_counter() - start)
-                if status != 0:
-                    sys.exit(f"{argv[0]} ended with status {os.waitstatus_to_exitcode(status)}")
                 report.seek(0)
                 lines = report.read().decode("ascii").splitlines()
-    return best, usage.ru_maxrss * 1024, lines
+    return best, lines
 
 
 def settled(lines):
@@ -71,19 +84,19 @@ def settled(lines):
     return steps + [line for line in lines if not line.startswith("step ")]
 
 
-def compare(program, rounds):
+def compare(program, rounds, memory):
     """Prints a line for each number of workers."""
     report = first = plain_first = None
     for workers in WORKERS:
-        spent, memory, lines = served([program], workers, RUNS, rounds)
-        plain, _, plain_lines = served([sys.executable, PLAIN], workers, RUNS, 1)
+        spent, lines = served([program], workers, rounds)
+        plain, plain_lines = served([sys.executable, PLAIN], workers, 1)
         report = report or settled(lines)
         for name, others in ((program, lines), (PLAIN, plain_lines)):
             if settled(others) != report:
                 sys.exit(f"{name}, {workers} workers: another report")
         first, plain_first = first or spent, plain_first or plain
         print(
-            f"{workers} workers {spent:7.3f} s, {first / spent:5.2f} times as fast as 1, {memory >> 20:5} MB;"
+            f"{workers} workers {spent:7.3f} s, {first / spent:5.2f} times as fast as 1, {memory[workers] >> 20:5} MB;"
             f" python3 {plain:7.2f} s, {plain_first / plain:5.2f} times as fast as 1; {plain / spent:6.1f} times python3"
         )
 
@@ -97,10 +110,10 @@ def main():
     if not os.path.exists(program):
         sys.exit("build it first: bin/artiq_lab builds it")
     print(f"{RUNS} runs of {OUTPUTS} outputs in {PIPELINES} pipelines")
-    compare(program, rounds)
-    _, whole, _ = served([program], 1, RUNS, 1)
-    _, half, _ = served([program], 1, RUNS // 2, 1)
-    print(f"memory: {(whole - half) / (RUNS // 2 * OUTPUTS):.0f} B an output")
+    memory = {workers: memory_of(program, workers, RUNS) for workers in WORKERS}
+    half = memory_of(program, 1, RUNS // 2)
+    compare(program, rounds, memory)
+    print(f"memory: {(memory[1] - half) / (RUNS // 2 * OUTPUTS):.0f} B an output")
 
 
 if __name__ == "__main__":
