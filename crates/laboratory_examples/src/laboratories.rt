@@ -1,8 +1,6 @@
 // Sessions of one worker, beside their reports.
 
-use exp_json::read_session;
-use lab_kits::OpenGate;
-use lab_program::run_laboratory;
+use crate::program::{Left, NONE, run};
 use std::alloc::{AllocError, Global};
 use std::sync::Wait;
 use std::test::Fail;
@@ -99,10 +97,14 @@ out 125000 0 0 1\nout 125100 0 0 0\ncursor 125200\ncounter 125096\nend\n",
     },
 ];
 
-// The report of a session.
+// The report that the program writes of a session, which it answers with 0.
 fn report_of<R: Threads + Wait + Sync>(rt: &R, alloc: Global, json: &str) -> Result<Vec<u8>, Fail> {
-    let session = read_session(alloc, json.as_bytes())?;
-    Ok(run_laboratory(rt, alloc, &session, &OpenGate)?)
+    let bytes = json.as_bytes().to_vec(alloc)?;
+    let Left { status, out, .. } = run(rt, alloc, &[], bytes, NONE)?;
+    if status != 0 {
+        return Err(Fail::from("the session is refused"));
+    }
+    Ok(out)
 }
 
 fn text_of(alloc: Global, row: &Row) -> Result<String, AllocError> {

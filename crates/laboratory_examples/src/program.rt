@@ -24,7 +24,8 @@ const SESSION: &str = r#"{"pipelines":[{}],"sources":[""],
 
 const REPORT: &str = "core 0\ncursor 0\ncounter 0\nend\n";
 
-const NONE: [&[u64]; 3] = [&[], &[], &[]];
+/// No call fails.
+pub const NONE: [&[u64]; 3] = [&[], &[], &[]];
 
 const ROWS: &[Row] = &[
     Row {
@@ -95,15 +96,16 @@ const ROWS: &[Row] = &[
     },
 ];
 
-// What a call of the program leaves.
+/// What a call of the program leaves.
 #[derive(Drop)]
-struct Left {
-    status: u8,
-    out: Vec<u8>,
-    err: Vec<u8>,
+pub struct Left {
+    pub status: u8,
+    pub out: Vec<u8>,
+    pub err: Vec<u8>,
 }
 
-fn run<R: Threads + Wait + Sync>(
+/// Calls the program with words on a source of some bytes; the calls of the source and of both sinks fail whose numbers are given.
+pub fn run<R: Threads + Wait + Sync>(
     rt: &R,
     alloc: Global,
     words: &[&str],
