@@ -78,6 +78,8 @@ impl<P: Payload> Sched<P> {
     pub fn next(&mut self, alloc: Global, who: u32) -> Result<Next<P>, AllocError>
         ensures ok { IfOk result (λ next. AnswersNext P.source_of P.stands_for P.has_call who self.old next self.new) }
         ensures err { OnErr result (self.new ≡ self.old) }
+        // Want of memory doesn't hide that a chair halted the scheduler.
+        ensures memory { OnErr result (halted_by self.old.history ≡ None) }
     {
         if let Some(by) = self.halted {
             return Ok(Next::Stopped { by });

@@ -1,14 +1,13 @@
 // The scheduler with the one chair that works.
 
-ghost use Rattle.std.specs.Prelude.{◌≡◌, Option, Some, None, IfOk, IfErr, OnOk, OnErr, IsTrue};
+ghost use Rattle.std.specs.Prelude.{◌≡◌, Some, None, IfOk, IfErr, OnOk, OnErr, IsTrue};
 ghost use Rattle.exp_model.specs.Sessions.{is_session};
 ghost use Rattle.sched_state.specs.declared.entry.JobName.TheVariants as name;
-ghost use Rattle.sched_state.specs.declared.entry.KernelResult.{KernelResult};
 ghost use Rattle.sched_state.specs.declared.entry.SchedAct.TheVariants as act;
 ghost use Rattle.sched_state.specs.Lawful.{step_at};
-ghost use Rattle.sched_core.specs.Calls.{AnswersNext, IsWhy, RanFits, stepped, stopped, with_entry};
+ghost use Rattle.sched_core.specs.Calls.{AnswersNext, HasJob, IsOwnKit, IsWhy, RanFits, stepped, stopped, with_entry};
 ghost use Rattle.sched_core.specs.Scheds.{IsSched, new_sched, sched_state};
-ghost use Rattle.sched_driver.specs.Drivers.{found_kernel};
+ghost use Rattle.sched_driver.specs.Drivers.{found_kernel, told_of};
 ghost use Rattle.sched_driver.specs.Tokens.{TokenCall, TokenText, token_source};
 
 use crate::token::Token;
@@ -65,6 +64,8 @@ impl Driver {
 
     /// Reports a run's preparation with a kit of this source. A refused report changes nothing.
     pub fn prepared(&mut self, alloc: Global, rid: u64, source: u32) -> Result<(), Why>
+        ensures flying { OnOk result (HasJob (sched_state self.old) (name.Prepare rid)) }
+        ensures own { OnOk result (IsOwnKit self.old.session (sched_state self.old) rid source) }
         ensures ok { OnOk result (self.new ≡ with_entry 0 (act.Prepared rid) self.old) }
         ensures why { IfErr result (λ why. IsWhy self.old.session (sched_state self.old) (name.Prepare rid) (Some source) why) }
         ensures err { OnErr result (self.new ≡ self.old) }
@@ -78,6 +79,7 @@ impl Driver {
 
     /// Reports that a run's source was refused. A refused report changes nothing.
     pub fn failed(&mut self, alloc: Global, rid: u64) -> Result<(), Why>
+        ensures flying { OnOk result (HasJob (sched_state self.old) (name.Prepare rid)) }
         ensures ok { OnOk result (self.new ≡ with_entry 0 (act.SourceRefused rid) self.old) }
         ensures why { IfErr result (λ why. IsWhy self.old.session (sched_state self.old) (name.Prepare rid) None why) }
         ensures err { OnErr result (self.new ≡ self.old) }
@@ -99,7 +101,9 @@ impl Driver {
         source: u32,
         ran: KernelResult,
     ) -> Result<(), Why>
-        ensures ok { OnOk result ((told : Option KernelResult) × (self.new ≡ stepped 0 rid pos told self.old)) }
+        ensures flying { OnOk result (HasJob (sched_state self.old) (name.Step rid pos)) }
+        ensures own { OnOk result (IsOwnKit self.old.session (sched_state self.old) rid source) }
+        ensures ok { OnOk result (self.new ≡ stepped 0 rid pos (told_of self.old rid pos ran) self.old) }
         ensures why { IfErr result (λ why. IsWhy self.old.session (sched_state self.old) (name.Step rid pos) (Some source) why) }
         ensures err { OnErr result (self.new ≡ self.old) }
     {
@@ -116,7 +120,8 @@ impl Driver {
 
     // The result, if the step is a kernel's.
     fn fitting(&self, rid: u64, pos: u32, ran: KernelResult) -> Option<KernelResult>
-        ensures { RanFits self.now rid pos result }
+        ensures fits { RanFits self.now rid pos result }
+        ensures told { result ≡ told_of self.now rid pos ran }
     {
         if self.is_kernel(rid, pos) {
             Some(ran)
@@ -144,6 +149,7 @@ impl Driver {
 
     /// Reports a run's analysis. A refused report changes nothing.
     pub fn analyzed(&mut self, alloc: Global, rid: u64) -> Result<(), Why>
+        ensures flying { OnOk result (HasJob (sched_state self.old) (name.Analyze rid)) }
         ensures ok { OnOk result (self.new ≡ with_entry 0 (act.Analyzed rid) self.old) }
         ensures why { IfErr result (λ why. IsWhy self.old.session (sched_state self.old) (name.Analyze rid) None why) }
         ensures err { OnErr result (self.new ≡ self.old) }
