@@ -11,6 +11,9 @@ use rtio_core::Core;
 use rtio_types::{Name, Recording};
 use std::alloc::{AllocError, Global};
 
+// What the line of a recording of some events takes.
+const LINE: usize = 64;
+
 /// A line `dma NAME HEX` for each recording that is kept, in the order of the store: its name, and its bytes in format 2
 /// as lower-case hex digits. The only error is want of memory.
 pub fn dma_lines(alloc: Global, core: &Core) -> Result<Vec<u8>, AllocError>
@@ -19,7 +22,8 @@ pub fn dma_lines(alloc: Global, core: &Core) -> Result<Vec<u8>, AllocError>
     let store = core.store();
     // No two recordings that a core keeps have one name.
     let _known = core.history();
-    let mut text = String::new(alloc);
+    let lines = store.len() as usize;
+    let mut text = String::with_capacity(alloc, lines.saturating_mul(LINE))?;
     for position in 0..store.len() {
         let name = store.name_at(position).unwrap();
         let recording = read(alloc, store, name)?;

@@ -14,6 +14,9 @@ use std::alloc::{AllocError, Global};
 // What a line of an event takes in most reports.
 const LINE: usize = 32;
 
+// What the lines of a summary take, and those at the end of a report.
+const CLOSING: usize = 512;
+
 /// The report of a run, whose session is the last one of the history. It has, each on a line of its own and in this order:
 /// `out STAMP CHANNEL ADDRESS DATA` for each event that was put out, by stamp and channel; the same with `pend` for each
 /// accepted event that no reset cleared and whose cycle is above the counter, by number; `seq NUMBER STAMP CHANNEL` for
@@ -33,10 +36,17 @@ pub fn report(
     requires { HasEnded core.now.history }
     ensures { IfOk result (λ bytes. bytes.items ≡ report_text core.now budget length steps) }
 {
-    let lines = core.trace().len().saturating_add(core.log().len());
-    let mut text = String::with_capacity(alloc, lines.saturating_mul(LINE))?;
-    write_events(&mut text, "out", core.trace())?;
     let pending = pending_events(alloc, core)?;
+    let lines = core
+        .trace()
+        .len()
+        .saturating_add(pending.len())
+        .saturating_add(core.log().len());
+    let mut text = String::with_capacity(
+        alloc,
+        lines.saturating_mul(LINE).saturating_add(CLOSING),
+    )?;
+    write_events(&mut text, "out", core.trace())?;
     write_events(&mut text, "pend", &pending)?;
     write_log(&mut text, core.log())?;
     write_datasets(alloc, &mut text, core.history())?;
@@ -56,7 +66,7 @@ pub fn summary(
     requires { HasEnded core.now.history }
     ensures { IfOk result (λ bytes. bytes.items ≡ summary_text core.now budget length steps) }
 {
-    let mut text = String::new(alloc);
+    let mut text = String::with_capacity(alloc, CLOSING)?;
     write_count(&mut text, "outs", core.trace().len())?;
     write_log_counts(&mut text, core.log())?;
     write_closing(&mut text, core, budget, length, steps)?;
