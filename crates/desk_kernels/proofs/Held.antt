@@ -36,9 +36,9 @@ opens-grew chair of old new (Err e) is err = grew-none chair old.history new.his
 pub turn-grew : {E : Type 0} (chair : ℕ) (request : Request) (cursor : ℤ) (old new : CoreState) (r : Result Turn E) → IfOk r (λ turn. IsTurnOrEnd old chair request cursor turn new) → OnErr r (new.history ≡ old.history) → Grew chair (booked_acts old.history) (booked_acts new.history)
 turn-grew chair request cursor old new (Ok (Replied reply)) is err = grew-one chair old.history new.history (Asked request reply _) (ap (λ (c : CoreState). c.history) is.leaves)
 turn-grew chair request cursor old new (Ok (Again back)) is err = grew-none chair old.history new.history is.1
-turn-grew chair request cursor old new (Ok Over) (mid, undecided, leaves) err =
+turn-grew chair request cursor old new (Ok Over) (mid, never, leaves) err =
     grew-one chair old.history new.history (End outcome.Horizon cursor mid.counter)
-    (ap (λ (c : CoreState). c.history) leaves ∙ ap (λ (c : CoreState). c.history ++ record { chair = chair; act = End outcome.Horizon cursor mid.counter } ∷ []) undecided.leaves)
+    (ap (λ (c : CoreState). c.history) leaves ∙ ap (λ (h : List Entry). h ++ record { chair = chair; act = End outcome.Horizon cursor mid.counter } ∷ []) (ap (λ (c : CoreState). c.history) never.later.is))
 turn-grew chair request cursor old new (Err e) is err = grew-none chair old.history new.history err
 
 pub ends-grew : {E : Type 0} (chair : ℕ) (how : Outcome) (cursor : ℤ) (old new : CoreState) (r : Result Bool E) → IfOk r (λ done. EndsOrWaits old chair how cursor done new) → OnErr r (new ≡ old) → Grew chair (booked_acts old.history) (booked_acts new.history)

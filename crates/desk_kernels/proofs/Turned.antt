@@ -19,8 +19,7 @@ use Rattle.desk.specs.Seated.{Opened}
 use Rattle.core_session.specs.Sessions.{entry_of}
 use Rattle.lab_kernels.specs.declared.turn.Turn.{Turn}
 use Rattle.lab_kernels.specs.declared.turn.Turn.TheVariants.{Replied, Again, Over}
-use Rattle.lab_kernels.specs.Decided.{IsAnswered}
-use Rattle.lab_kernels.specs.Turns.{IsReplied, IsUndecided, ticked_on}
+use Rattle.lab_kernels.specs.Decided.{IsAnswered, IsNeverAnswered}
 use Rattle.lab_kernels.proofs.Histories.{last-at-push}
 use Rattle.desk_kernels.specs.Chairs.{CoreChair, core_entries}
 use Rattle.desk_kernels.specs.Holdings.{EndsOrWaits, Holds, IsGivenUp, IsReady, IsTurnAt, IsTurnOrEnd, MayPutEnd, core_as_seen}
@@ -45,35 +44,34 @@ module _ (desk : Opened Config) (old new : CoreChair) (was now : CoreState) (hol
     seen-none : now.history ≡ was.history → new.seen ≡ old.seen
     seen-none is = holds.seen ∙ ap booked_acts (is ∙ same) ∙ booked-entries old.seen
 
-    replied-at : (request : Request) (reply : Reply) → IsReplied was old.number request reply now → IsAnswered (core_as_seen desk.fixed old) old.number request reply (core_as_seen desk.fixed new)
+    replied-at : (request : Request) (reply : Reply) → IsAnswered was old.number request reply now → IsAnswered (core_as_seen desk.fixed old) old.number request reply (core_as_seen desk.fixed new)
     replied-at request reply is =
-        let at : ℕ = (ticked_on was).counter in
-        let entry : Entry = entry_of old.number (Asked request reply at) in
+        let entry : Entry = entry_of old.number (Asked request reply is.at) in
         record {
-          at = at;
-          at_top = subst (λ (h : List Entry). at ≡ top desk.fixed h (Some request)) same (subst (λ (c : Config). at ≡ top c was.history (Some request)) holds.config is.at_top);
-          right = subst (λ (h : List Entry). reply_to desk.fixed h request at ≡ Some reply) same (subst (λ (c : Config). reply_to c was.history request at ≡ Some reply) holds.config is.right);
+          at = is.at;
+          at_top = subst (λ (h : List Entry). is.at ≡ top desk.fixed h (Some request)) same (subst (λ (c : Config). is.at ≡ top c was.history (Some request)) holds.config is.at_top);
+          right = subst (λ (h : List Entry). reply_to desk.fixed h request is.at ≡ Some reply) same (subst (λ (c : Config). reply_to c was.history request is.at ≡ Some reply) holds.config is.right);
           leaves = as-seen-more desk.fixed (core_entries old.seen) entry new (entries-more entry (ap (λ (c : CoreState). c.history) is.leaves));
         }
 
-    given-up : (request : Request) (cursor : ℤ) (mid : CoreState) → IsUndecided was request mid → now ≡ ended mid old.number outcome.Horizon cursor → IsGivenUp desk.fixed old request cursor new
-    given-up request cursor mid undecided leaves =
+    given-up : (request : Request) (cursor : ℤ) (mid : CoreState) → IsNeverAnswered was request mid → now ≡ ended mid old.number outcome.Horizon cursor → IsGivenUp desk.fixed old request cursor new
+    given-up request cursor mid never leaves =
         let last : was.config.horizon ≡ desk.fixed.horizon = ap (λ (c : Config). c.horizon) holds.config in
-        let at : mid.counter ≡ desk.fixed.horizon = ap (λ (c : CoreState). c.counter) undecided.leaves ∙ undecided.last ∙ last in
+        let at : mid.counter ≡ desk.fixed.horizon = never.last ∙ last in
         let reached : last_at was.history ≤ was.counter = holds.known.reached in
-        let there = undecided.last in
-        let late : last_at was.history ≤ desk.fixed.horizon = omega (arith, reached, there, last) in
+        let on : was.counter ≤ mid.counter = never.later.later in
+        let late : last_at was.history ≤ desk.fixed.horizon = omega (arith, reached, on, at) in
         let entry : Entry = entry_of old.number (End outcome.Horizon cursor desk.fixed.horizon) in
         let put : now.history ≡ was.history ++ entry ∷ [] =
         ap (λ (c : CoreState). c.history) leaves
-        ∙ ap (λ (c : CoreState). c.history ++ entry_of old.number (End outcome.Horizon cursor mid.counter) ∷ []) undecided.leaves
+        ∙ ap (λ (h : List Entry). h ++ entry_of old.number (End outcome.Horizon cursor mid.counter) ∷ []) (ap (λ (c : CoreState). c.history) never.later.is)
         ∙ ap (λ (n : ℕ). was.history ++ entry_of old.number (End outcome.Horizon cursor n) ∷ []) at in
         record {
           last = record (core_as_seen desk.fixed old) { counter = desk.fixed.horizon };
           never = record {
             undecided =
                 subst (λ (h : List Entry). reply_to desk.fixed h request desk.fixed.horizon ≡ None) same
-                (subst (λ (c : Config). reply_to c was.history request c.horizon ≡ None) holds.config undecided.undecided);
+                (subst (λ (c : Config). reply_to c was.history request c.horizon ≡ None) holds.config never.undecided);
             last = refl;
             later = record { is = refl; later = subst (λ (h : List Entry). last_at h ≤ desk.fixed.horizon) same late };
           };
@@ -83,7 +81,7 @@ module _ (desk : Opened Config) (old new : CoreChair) (was now : CoreState) (hol
     turn-now : (request : Request) (cursor : ℤ) (turn : Turn) → IsTurnOrEnd was old.number request cursor turn now → IsTurnAt desk.fixed old request cursor turn new
     turn-now request cursor (Replied reply) is = replied-at request reply is
     turn-now request cursor (Again back) is = (is.0, seen-none is.1)
-    turn-now request cursor Over (mid, undecided, leaves) = given-up request cursor mid undecided leaves
+    turn-now request cursor Over (mid, never, leaves) = given-up request cursor mid never leaves
 
     pub turn-at : {E : Type 0} (who : ℕ) (request : Request) (cursor given : ℤ) (r : Result Turn E) → who ≡ old.number → given ≡ cursor → IfOk r (λ turn. IsTurnOrEnd was who request given turn now) → IfOk r (λ turn. IsTurnAt desk.fixed old request cursor turn new)
     turn-at who request cursor given (Ok turn) mine as-given is =

@@ -19,7 +19,7 @@ use Rattle.core_session.specs.Sessions.{entry_of}
 use Rattle.lab_kernels.specs.declared.turn.Turn.{Turn}
 use Rattle.lab_kernels.specs.declared.turn.Turn.TheVariants.{Replied, Again, Over}
 use Rattle.lab_kernels.specs.Decided.{IsAnswered, IsNeverAnswered}
-use Rattle.lab_kernels.specs.Turns.{IsReplied, IsUndecided}
+use Rattle.lab_kernels.specs.Growing.{IsLater}
 use Rattle.desk_kernels.specs.Chairs.{CoreChair, IsAt, KnowsItsOwn, core_entries}
 use Rattle.desk_kernels.specs.declared.starting.Opening.{Opening}
 use Rattle.desk_kernels.specs.declared.starting.Opening.TheVariants.{Begun, Busy}
@@ -68,11 +68,17 @@ abbrev pub Opens : Opened Config → CoreChair → StartOf → Opening → CoreC
 Opens desk old of (Begun cursor) new = HasStarted desk old of cursor new
 Opens desk old of (Busy back) new = (back ≡ of) × (new.own ≡ old.own)
 
--- what became of a request on the core, in one holding; one that isn't decided at the horizon has ended the session
+-- what became of a request on the core, in one holding
+abbrev pub IsHeldTurn : CoreState → (chair : ℕ) → Request → Turn → CoreState → Type 0
+IsHeldTurn old chair request (Replied reply) new = IsAnswered old chair request reply new
+IsHeldTurn old chair request (Again back) new = (back ≡ request) × IsLater old new
+IsHeldTurn old chair request Over new = IsNeverAnswered old request new
+
+-- the same, where a request that isn't decided at the horizon has ended the session
 abbrev pub IsTurnOrEnd : CoreState → (chair : ℕ) → Request → ℤ → Turn → CoreState → Type 0
-IsTurnOrEnd old chair request cursor (Replied reply) new = IsReplied old chair request reply new
+IsTurnOrEnd old chair request cursor (Replied reply) new = IsAnswered old chair request reply new
 IsTurnOrEnd old chair request cursor (Again back) new = (back ≡ request) × (new.history ≡ old.history)
-IsTurnOrEnd old chair request cursor Over new = (mid : CoreState) × IsUndecided old request mid × (new ≡ ended mid chair outcome.Horizon cursor)
+IsTurnOrEnd old chair request cursor Over new = (mid : CoreState) × IsNeverAnswered old request mid × (new ≡ ended mid chair outcome.Horizon cursor)
 
 -- the request isn't decided at the horizon, and there the session has ended
 pub record IsGivenUp (config : Config) (old : CoreChair) (request : Request) (cursor : ℤ) (new : CoreChair) : Type 0 where

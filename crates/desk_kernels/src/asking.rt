@@ -5,7 +5,7 @@ ghost use Rattle.rtio_types.specs.Requests.{is_well_formed};
 ghost use Rattle.rtio_core.specs.Core.{IsCore};
 ghost use Rattle.rtio_core.specs.Lawful.{IsOpenFor};
 ghost use Rattle.desk_kernels.specs.Chairs.{core_entries};
-ghost use Rattle.desk_kernels.specs.Holdings.{GoesOn, IsDecidedAt, IsReady, IsTurnAt, IsTurnOrEnd};
+ghost use Rattle.desk_kernels.specs.Holdings.{GoesOn, IsDecidedAt, IsHeldTurn, IsReady, IsTurnAt, IsTurnOrEnd};
 
 use desk::{Chair, Desk};
 use lab_kernels::{Turn, ask_stopped};
@@ -82,7 +82,7 @@ fn ask_or_end(
     ensures turn { IfOk result (λ turn. IsTurnOrEnd core.old who request cursor turn core.new) }
     ensures err { OnErr result (core.new.history ≡ core.old.history) }
 {
-    let turn = match ask_stopped(alloc, core, who, request) {
+    let turn = match ask_held(alloc, core, who, request) {
         Ok(Turn::Over) => match core.end(alloc, who, Outcome::Horizon, cursor) {
             Ok(()) => Ok(Turn::Over),
             Err(_) => Err(AllocError),
@@ -91,4 +91,30 @@ fn ask_or_end(
     };
     let _after = core.history();
     turn
+}
+
+// Asks the core that is held. Where it was stopped already, and the request began to wait, the core may go on in this holding still,
+// and is asked once more: so an output that waits for room takes the core from its desk once.
+fn ask_held(
+    alloc: Global,
+    core: &mut Core,
+    who: u32,
+    request: Request,
+) -> Result<Turn, AllocError>
+    requires open { IsOpenFor who core.old.history }
+    requires formed { IsTrue (is_well_formed request) }
+    ensures turn { IfOk result (λ turn. IsHeldTurn core.old who request turn core.new) }
+    ensures err { OnErr result ((core.new.history ≡ core.old.history) × (core.new.config ≡ core.old.config)) }
+{
+    let before = core.counter();
+    match ask_stopped(alloc, core, who, request)? {
+        Turn::Again(back) => {
+            if core.counter() == before {
+                ask_stopped(alloc, core, who, back)
+            } else {
+                Ok(Turn::Again(back))
+            }
+        }
+        decided => Ok(decided),
+    }
 }

@@ -12,7 +12,7 @@ use Rattle.rtio_core.specs.Top.{top}
 use Rattle.lab_kernels.specs.declared.turn.Turn.TheVariants.{Replied, Again, Over}
 use Rattle.lab_kernels.specs.Decided.{IsAnswered, IsNeverAnswered}
 use Rattle.lab_kernels.specs.Growing.{IsLater}
-use Rattle.lab_kernels.specs.Turns.{IsTurn, ticked_on, waits_with}
+use Rattle.lab_kernels.specs.Turns.{IsReplied, IsTurn, IsUndecided, ticked_on, waits_with}
 use Rattle.lab_kernels.proofs.Growing.{later-on, later-same}
 
 -- one more holding may begin with the request waiting
@@ -33,11 +33,30 @@ pub record IsAskedStill (old : CoreState) (request : Request) (core : CoreState)
 pub first-asked : (old : CoreState) (request : Request) → NoOtherWaits old.waiting request → IsAskedStill old request old request
 first-asked old request free = record { same = refl; later = later-same old; free = free }
 
-ticks-later : (old new : CoreState) → new ≡ ticked_on old → IsLater old new
+pub ticks-later : (old new : CoreState) → new ≡ ticked_on old → IsLater old new
 ticks-later old new is = record { is = is ∙ ap (λ (c : CoreState). record old { counter = c.counter; waiting = c.waiting }) (sym is); later = let up = ap (λ (c : CoreState). c.counter) is in omega (arith, up) }
 
-waits-later : (old new : CoreState) (w : Waiting) → new ≡ waits_with (ticked_on old) w → IsLater old new
+pub waits-later : (old new : CoreState) (w : Waiting) → new ≡ waits_with (ticked_on old) w → IsLater old new
 waits-later old new w is = record { is = is ∙ ap (λ (c : CoreState). record old { counter = c.counter; waiting = c.waiting }) (sym is); later = let up = ap (λ (c : CoreState). c.counter) is in omega (arith, up) }
+
+-- what a core decides that has only ticked is decided of the core before
+module _ (old core new : CoreState) (later : IsLater old core) where
+  pub later-replied : (chair : ℕ) (request : Request) (reply : Reply) → IsReplied core chair request reply new → IsAnswered old chair request reply new
+  later-replied chair request reply turn = record {
+    at = (ticked_on core).counter;
+    at_top = subst (λ (c : CoreState). (ticked_on core).counter ≡ top c.config c.history (Some request)) later.is turn.at_top;
+    right = subst (λ (c : CoreState). reply_to c.config c.history request (ticked_on core).counter ≡ Some reply) later.is turn.right;
+    leaves = turn.leaves ∙ ap (λ (c : CoreState). answered (record c { counter = (ticked_on core).counter }) chair request reply) later.is;
+  }
+
+  pub later-undecided : (request : Request) → IsUndecided core request new → IsNeverAnswered old request new
+  later-undecided request turn =
+      let horizon : core.config.horizon ≡ old.config.horizon = ap (λ (c : CoreState). c.config.horizon) later.is in
+      record {
+        undecided = subst (λ (c : CoreState). reply_to c.config c.history request c.config.horizon ≡ None) later.is turn.undecided;
+        last = ap (λ (c : CoreState). c.counter) turn.leaves ∙ turn.last ∙ horizon;
+        later = later-on old core new later (waits-later core new turn.waiting turn.leaves);
+      }
 
 module _ (old core new : CoreState) (request asked : Request) (still : IsAskedStill old request core asked) where
   -- asked again
@@ -69,24 +88,16 @@ module _ (old core new : CoreState) (request asked : Request) (still : IsAskedSt
 
   -- decided, or never
   pub replied-decided : (chair : ℕ) (reply : Reply) → IsTurn core chair asked (Replied reply) new → IsAnswered old chair request reply new
-  replied-decided chair reply turn = record {
-    at = (ticked_on core).counter;
-    at_top = subst (λ (q : Request). (ticked_on core).counter ≡ top old.config old.history (Some q)) still.same (subst (λ (c : CoreState). (ticked_on core).counter ≡ top c.config c.history (Some asked)) still.later.is turn.at_top);
-    right = subst (λ (q : Request). reply_to old.config old.history q (ticked_on core).counter ≡ Some reply) still.same (subst (λ (c : CoreState). reply_to c.config c.history asked (ticked_on core).counter ≡ Some reply) still.later.is turn.right);
-    leaves =
-        turn.leaves
-        ∙ ap (λ (q : Request). answered (ticked_on core) chair q reply) still.same
-        ∙ ap (λ (c : CoreState). answered (record c { counter = (ticked_on core).counter }) chair request reply) still.later.is;
-  }
+  replied-decided chair reply turn = later-replied old core new still.later chair request reply (subst (λ (q : Request). IsReplied core chair q reply new) still.same turn)
 
   pub over-decided : (chair : ℕ) → IsTurn core chair asked Over new → IsNeverAnswered old request new
-  over-decided chair turn =
-      let horizon : core.config.horizon ≡ old.config.horizon = ap (λ (c : CoreState). c.config.horizon) still.later.is in
-      record {
-        undecided = subst (λ (q : Request). reply_to old.config old.history q old.config.horizon ≡ None) still.same (subst (λ (c : CoreState). reply_to c.config c.history asked c.config.horizon ≡ None) still.later.is turn.undecided);
-        last = ap (λ (c : CoreState). c.counter) turn.leaves ∙ turn.last ∙ horizon;
-        later = later-on old core new still.later (waits-later core new turn.waiting turn.leaves);
-      }
+  over-decided chair turn = later-undecided old core new still.later request (subst (λ (q : Request). IsUndecided core q new) still.same turn)
 
   pub open-still : (chair : ℕ) → IsOpenFor chair old.history → IsOpenFor chair core.history
   open-still chair opened = subst (λ (c : CoreState). IsOpenFor chair c.history) (sym still.later.is) opened
+
+-- where a request has to be asked again the core has only ticked
+pub again-later : (old : CoreState) (who : ℕ) (request back : Request) (new : CoreState) → IsTurn old who request (Again back) new → IsLater old new
+again-later old who request back new (same, inl goes) = ticks-later old new goes.1
+again-later old who request back new (same, inr (inl waits)) = waits-later old new waits.waiting waits.leaves
+again-later old who request back new (same, inr (inr other)) = ticks-later old new other.leaves

@@ -8,7 +8,7 @@ ghost use Rattle.lab_workers.specs.Workers.{AreDesksOf, IsWorkerAt, sched_entrie
 
 use super::{WorkEnd, Worker};
 use crate::desks::Desks;
-use crate::idling::let_all_tick;
+use crate::idling::{give_way, let_all_tick};
 use crate::preparing::do_preparation;
 use crate::reporting::tell;
 use crate::tasks::{Report, Task, Turn};
@@ -16,7 +16,6 @@ use crate::turns::next_turn;
 use lab_kits::Gate;
 use std::alloc::{AllocError, Global};
 use std::sync::Wait;
-use std::thread;
 
 impl Worker {
     /// Works round after round until nothing is left to do or the scheduler is halted. The only error is want of memory.
@@ -61,7 +60,7 @@ impl Worker {
             }
             Turn::Idle => {
                 let_all_tick(rt, desks.cores.as_slice(), self.cores.as_mut_slice());
-                thread::yield_now();
+                give_way();
                 Ok(None)
             }
             Turn::Over => Ok(Some(WorkEnd::Finished)),
