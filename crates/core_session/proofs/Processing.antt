@@ -31,8 +31,8 @@ use Rattle.core_cpu.specs.declared.stop.Stop.TheVariants as stop
 use Rattle.run_schedule.specs.Schedules.{ScheduleState}
 use Rattle.core_session.specs.Scripts.{Next, HasNumber, HaveNumbers, TellsRuns}
 use Rattle.core_session.specs.Sessions.{Answered, account_of, requests_of, replies_of, entry_of, asked_entry, EndsAs}
-use Rattle.core_session.specs.Standing.{Session, history_of, IsOpen, IsAtPoint, HasOpen, StopsSo, Processes, playing}
-use Rattle.core_session.specs.Timed.{processed, replied, waits, waits_for, ticked, as_waiting}
+use Rattle.core_session.specs.Standing.{Session, history_of, IsOpen, IsAtPoint, HasOpen, HasStopped, StopsSo, Processes, playing}
+use Rattle.core_session.specs.Timed.{IsStoppedAt, processed, replied, waits, waits_for, ticked, as_waiting}
 use Rattle.core_session.proofs.Histories.{has-open, fits-history, history-push, numbers-push}
 use Rattle.core_session.proofs.Scripted.{ran-asking, ran-ended, runs-asking, runs-ended, script-asks, script-ends}
 use Rattle.core_isa.proofs.UnitsTaken.{requests_take_units}
@@ -224,6 +224,14 @@ module _ (old mid new : CoreState) (before now : Moment) (request : Request) (un
 
   pub never-after : (still : CoreState) (cursor : ℤ) → cursor ≡ now.machine.cursor → AnswersTick mid tick.Horizon still → new ≡ ended still 0 outcome.Horizon cursor → Processes old new before now (Some outcome.Horizon)
   never-after still cursor at a is = never-processes cursor at a.0 (is ∙ ap (λ (k : CoreState). ended k 0 outcome.Horizon cursor) a.1)
+
+  -- or waits there in vain, where there is no memory for the end
+  pub vainly-stopped : (still : CoreState) → AnswersTick mid tick.Horizon still → new ≡ still → HasStopped old before new
+  vainly-stopped still a is s asked open' next script =
+      let there = stops s asked open' in
+      let goes = script-asks s asked request now next script (fitting-history s asked old before open' known) open'.numbers there.2 there.3 in
+      let far : old.counter ≡ old.config.horizon = subst (λ (c : CoreState). c.counter ≡ c.config.horizon) mid-is a.0 in
+      subst (λ (n : Next). IsStoppedAt old n new) (sym goes) (inr (far, undecided, is ∙ a.1 ∙ mid-waits))
 
   -- below it the core ticks once
   pub waiting-processes : mid.counter ≢ mid.config.horizon → mid.counter < core_top mid → new ≡ record mid { counter = mid.counter + 1 } → Processes old new before now None

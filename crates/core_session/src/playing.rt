@@ -7,7 +7,7 @@ ghost use Rattle.rtio_types.specs.Requests.{is_well_formed};
 ghost use Rattle.core_cpu.specs.declared.stop.Stop.TheVariants as stop;
 ghost use Rattle.core_session.specs.Scripts.{HasNumber, IsScriptOf, Next};
 ghost use Rattle.core_session.specs.Sessions.{Answered};
-ghost use Rattle.core_session.specs.Standing.{Session, HasOpen, IsOpen, IsSameButWaiting, HasBegun, Plays, Processes, StopsSo, Turns, IsLeftAfter, ticks_in_a_row};
+ghost use Rattle.core_session.specs.Standing.{Session, HasOpen, IsOpen, HasStopped, HasBegun, Plays, Processes, StopsSo, Turns, IsLeftAfter, ticks_in_a_row};
 
 use core_cpu::{Cpu, Stop};
 use rtio_core::{Ask, Core, Tick, what_is_decided_stays_decided};
@@ -42,7 +42,7 @@ fn turn(
 ) -> Result<Option<Outcome>, AllocError>
     requires { HasOpen core.old cpu.old }
     ensures turns { IfOk result (λ end. Turns core.old cpu.old schedule.old core.new cpu.new schedule.new end) }
-    ensures err { OnErr result (IsSameButWaiting core.old core.new) }
+    ensures err { OnErr result (HasStopped core.old cpu.old core.new) }
 {
     let _known = core.history();
     match schedule.next(core.stopped()) {
@@ -65,7 +65,7 @@ fn ticks_in_a_row(schedule: &Schedule) -> u64
 fn process(alloc: Global, core: &mut Core, cpu: &mut Cpu<'_>) -> Result<Option<Outcome>, AllocError>
     requires { HasOpen core.old cpu.old }
     ensures processes { IfOk result (λ end. Processes core.old core.new cpu.old cpu.new end) }
-    ensures err { OnErr result (IsSameButWaiting core.old core.new) }
+    ensures err { OnErr result (HasStopped core.old cpu.old core.new) }
 {
     let _known = core.history();
     what_is_decided_stays_decided();

@@ -41,7 +41,8 @@ pub fn run_session(
     ensures lockstep { schedule.old ≡ Lockstep → OnOk result (GrowsAtTop core.old core.new) }
     ensures busy { (rid : ℕ) → result ≡ Err (SessionEnd.Busy rid) →
         ((chair : ℕ) × (open_session core.old.history ≡ Some (chair, rid))) × (core.new ≡ core.old) × (schedule.new ≡ schedule.old) }
-    // Without memory the core is as before, or as after some of the steps.
+    // Without memory the core is as before, or as after some of the steps. At the horizon the request that comes next may
+    // wait then, where it isn't decided there.
     ensures memory { result ≡ Err SessionEnd.Memory → open_session core.old.history ≡ None }
     ensures left { result ≡ Err SessionEnd.Memory → (core.new ≡ core.old) ⊎
         IsLeftWithin (script_of (tree_of compiled.now.0) (beginning_of of units core.old)) 0 of core.old schedule.old core.new }
