@@ -2,6 +2,9 @@ pub mod Counted
 pub mod Unplayed
 pub mod Replayed
 pub mod Fetched
+pub mod RepliesLeft
+pub mod RepliesTaken
+pub mod Fitting
 pub mod Meant
 pub mod Playing
 pub mod Playbacks

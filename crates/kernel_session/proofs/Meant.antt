@@ -58,6 +58,10 @@ same_outcome (M.Raised x) = refl
 same_outcome M.Budget = refl
 same_outcome M.Unanswered = refl
 
+-- a run that gives what a meaning does has its account
+pub account_as : (m : Meaning) (count : ℕ) → account_of (ran_as m count) ≡ account_of_meaning m
+account_as m count = ap (λ (o : Option Outcome). record { requests = m.requests; outcome = o; cursor = m.cursor }) (same_outcome m.outcome)
+
 module _ (program : ProgramTree) (code : Code) (agrees : RunsAreMeant program code) (start : Beginning) (takes : TakesArguments program start.function start.args) (from : FitsSigned w64 start.cursor) where
   -- a run gives what the meaning gives
   pub same_account : (replies : List Reply) (ran : Ran) → Runs code start.function start.args start.cursor start.units replies ran → RepliesFit ran.requests replies → HaveNumbers replies
@@ -65,8 +69,7 @@ module _ (program : ProgramTree) (code : Code) (agrees : RunsAreMeant program co
   same_account replies ran runs fit numbers =
       let m : Meaning = meant program start replies in
       let same : ran ≡ ran_as m ran.count = agrees takes.0 start.function start.args start.cursor start.units replies ran takes.1 takes.2 from (numbers_fit replies numbers) runs fit in
-      ap account_of same
-      ∙ ap (λ (o : Option Outcome). record { requests = m.requests; outcome = o; cursor = m.cursor }) (same_outcome m.outcome)
+      ap account_of same ∙ account_as m ran.count
 
   -- so what comes next by the one is what comes next by the other
   pub is_script : (replies : List Reply) (ran : Ran) → Runs code start.function start.args start.cursor start.units replies ran → RepliesFit ran.requests replies → HaveNumbers replies

@@ -7,7 +7,7 @@ mod session;
 
 pub use arguments::takes_arguments;
 pub use laws::{
-    main_takes_no_arguments, outputs_and_resets_count,
-    recordings_are_played_where_they_were_asked_for,
+    code_plays_recordings_where_it_asked_for_them, main_takes_no_arguments,
+    outputs_and_resets_count, recordings_are_played_where_they_were_asked_for,
 };
 pub use session::run_session;
