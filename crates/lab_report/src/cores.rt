@@ -86,15 +86,16 @@ fn write_counter(text: &mut String, core: &Core) -> Result<(), AllocError>
     writeln!(text, "counter {reads}")
 }
 
-// The cursor of the last end (mu), 0 where no session ended.
+// The cursor of the last end (mu), 0 where no session ended. It stands near the end of the history.
 fn last_cursor(history: &[Entry]) -> i64
     ensures { result ≡ last_cursor history.now }
 {
-    let mut cursor = 0;
-    for entry in history {
-        if let Act::End { cursor: end, .. } = &entry.act {
-            cursor = *end;
+    let mut left = history.len();
+    while left > 0 {
+        left -= 1;
+        if let Act::End { cursor, .. } = &history[left].act {
+            return *cursor;
         }
     }
-    cursor
+    0
 }

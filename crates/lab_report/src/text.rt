@@ -11,6 +11,9 @@ use rtio_core::Core;
 use sched_core::{Payload, Sched};
 use std::alloc::{AllocError, Global};
 
+// What a line takes in most reports.
+const LINE: usize = 32;
+
 /// The report of a laboratory: its scheduler, and its cores by pipeline. It has, each on a line of its own and in this order:
 /// `step CLOCK RID POS WORD` for each step that was reported, in the order of the scheduler's history, with the lab clock after
 /// it; `run RID STATUS` for each run, by number, with `done`, `failed`, `terminated` or `deleted`; `data NAME FLAGS VALUE` for
@@ -25,11 +28,23 @@ pub fn report<P: Payload>(
 ) -> Result<Vec<u8>, AllocError>
     ensures { IfOk result (λ bytes. bytes.items ≡ lab_text sched.now cores.now) }
 {
-    let mut text = String::new(alloc);
+    let lines = lines_of(cores).saturating_add(sched.history().len());
+    let mut text = String::with_capacity(alloc, lines.saturating_mul(LINE))?;
     write_steps(&mut text, sched.history())?;
     write_runs(&mut text, sched.runs().items())?;
     write_datasets(&mut text, sched.datasets())?;
     write_cores(alloc, &mut text, cores)?;
     text.push_str("end\n")?;
     Ok(text.into_bytes())
+}
+
+// How many lines tell of events that were put out or are in the logs.
+fn lines_of(cores: &[Core]) -> usize {
+    let mut lines: usize = 0;
+    for core in cores {
+        lines = lines
+            .saturating_add(core.trace().len())
+            .saturating_add(core.log().len());
+    }
+    lines
 }
