@@ -47,8 +47,12 @@ module _ (desk : Opened Config) (old new : CoreChair) (was now : CoreState) (hol
     replied-at : (request : Request) (reply : Reply) → IsAnswered was old.number request reply now → IsAnswered (core_as_seen desk.fixed old) old.number request reply (core_as_seen desk.fixed new)
     replied-at request reply is =
         let entry : Entry = entry_of old.number (Asked request reply is.at) in
+        let reached : last_at was.history ≤ was.counter = holds.known.reached in
+        let on : was.counter ≤ is.at = is.later in
+        let late : last_at was.history ≤ is.at = omega (arith, reached, on) in
         record {
           at = is.at;
+          later = subst (λ (h : List Entry). last_at h ≤ is.at) same late;
           at_top = subst (λ (h : List Entry). is.at ≡ top desk.fixed h (Some request)) same (subst (λ (c : Config). is.at ≡ top c was.history (Some request)) holds.config is.at_top);
           right = subst (λ (h : List Entry). reply_to desk.fixed h request is.at ≡ Some reply) same (subst (λ (c : Config). reply_to c was.history request is.at ≡ Some reply) holds.config is.right);
           leaves = as-seen-more desk.fixed (core_entries old.seen) entry new (entries-more entry (ap (λ (c : CoreState). c.history) is.leaves));

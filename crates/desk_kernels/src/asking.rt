@@ -95,12 +95,7 @@ fn ask_or_end(
 
 // Asks the core that is held. Where it was stopped already, and the request began to wait, the core may go on in this holding still,
 // and is asked once more: so an output that waits for room takes the core from its desk once.
-fn ask_held(
-    alloc: Global,
-    core: &mut Core,
-    who: u32,
-    request: Request,
-) -> Result<Turn, AllocError>
+fn ask_held(alloc: Global, core: &mut Core, who: u32, request: Request) -> Result<Turn, AllocError>
     requires open { IsOpenFor who core.old.history }
     requires formed { IsTrue (is_well_formed request) }
     ensures turn { IfOk result (λ turn. IsHeldTurn core.old who request turn core.new) }

@@ -1,19 +1,19 @@
 -- Asking until a request is decided.
 use Rattle.std.proofs.Common.{◌≡◌, ℕ, ◌+◌, ◌-◌, ◌*◌, ◌<◌, inl, inr, refl, sym, ap, subst, ◌∙◌, arith}
-use Rattle.std.specs.Prelude.{Option, Some, None}
+use Rattle.std.specs.Prelude.{◌⊎◌, Option, Some, None, IsSome, option_map}
 use Rattle.rtio_types.specs.declared.request.Request.{Request}
 use Rattle.rtio_types.specs.declared.request.Reply.{Reply}
 use Rattle.rtio_types.specs.declared.request.Waiting.{Waiting}
+use Rattle.rtio_types.specs.Requests.{request_waiting}
 use Rattle.rtio_core.specs.Core.{CoreState}
 use Rattle.rtio_core.specs.Calls.{NoOtherWaits, answered}
 use Rattle.rtio_core.specs.Lawful.{IsOpenFor}
 use Rattle.rtio_core.specs.Reply.{reply_to}
 use Rattle.rtio_core.specs.Top.{top}
 use Rattle.lab_kernels.specs.declared.turn.Turn.TheVariants.{Replied, Again, Over}
-use Rattle.lab_kernels.specs.Decided.{IsAnswered, IsNeverAnswered}
-use Rattle.lab_kernels.specs.Growing.{IsLater}
-use Rattle.lab_kernels.specs.Turns.{IsReplied, IsTurn, IsUndecided, ticked_on, waits_with}
-use Rattle.lab_kernels.proofs.Growing.{later-on, later-same}
+use Rattle.lab_kernels.specs.Decided.{IsAnswered, IsHeldUp, IsLater, IsNeverAnswered, WaitsFor}
+use Rattle.lab_kernels.specs.Turns.{BeginsToWait, IsReplied, IsTurn, IsUndecided, ticked_on, waits_with}
+use Rattle.lab_kernels.proofs.Later.{later-on, later-same}
 
 -- one more holding may begin with the request waiting
 abbrev idle_count : Option Waiting → ℕ
@@ -24,14 +24,20 @@ idle_count (Some w) = 0
 abbrev pub distance : CoreState → ℕ
 distance core = 2 * (core.config.horizon - core.counter) + idle_count core.waiting
 
+-- whether the request waits is as before, or it waits since it wasn't decided where the core stops without it
+abbrev pub WaitsSince : CoreState → Request → CoreState → Type 0
+WaitsSince old request core =
+    (core.waiting ≡ old.waiting) ⊎ ((reply_to old.config old.history request (top old.config old.history None) ≡ None) × WaitsFor core request)
+
 -- where the holdings of a request stand
 pub record IsAskedStill (old : CoreState) (request : Request) (core : CoreState) (asked : Request) : Type 0 where
   pub same : asked ≡ request
   pub later : IsLater old core
   pub free : NoOtherWaits core.waiting request
+  pub waits : WaitsSince old request core
 
 pub first-asked : (old : CoreState) (request : Request) → NoOtherWaits old.waiting request → IsAskedStill old request old request
-first-asked old request free = record { same = refl; later = later-same old; free = free }
+first-asked old request free = record { same = refl; later = later-same old; free = free; waits = inl refl }
 
 pub ticks-later : (old new : CoreState) → new ≡ ticked_on old → IsLater old new
 ticks-later old new is = record { is = is ∙ ap (λ (c : CoreState). record old { counter = c.counter; waiting = c.waiting }) (sym is); later = let up = ap (λ (c : CoreState). c.counter) is in omega (arith, up) }
@@ -44,6 +50,7 @@ module _ (old core new : CoreState) (later : IsLater old core) where
   pub later-replied : (chair : ℕ) (request : Request) (reply : Reply) → IsReplied core chair request reply new → IsAnswered old chair request reply new
   later-replied chair request reply turn = record {
     at = (ticked_on core).counter;
+    later = let up = later.later in omega (arith, up);
     at_top = subst (λ (c : CoreState). (ticked_on core).counter ≡ top c.config c.history (Some request)) later.is turn.at_top;
     right = subst (λ (c : CoreState). reply_to c.config c.history request (ticked_on core).counter ≡ Some reply) later.is turn.right;
     leaves = turn.leaves ∙ ap (λ (c : CoreState). answered (record c { counter = (ticked_on core).counter }) chair request reply) later.is;
@@ -59,17 +66,38 @@ module _ (old core new : CoreState) (later : IsLater old core) where
       }
 
 module _ (old core new : CoreState) (request asked : Request) (still : IsAskedStill old request core asked) where
+  waits-still : new.waiting ≡ core.waiting → WaitsSince old request core → WaitsSince old request new
+  waits-still same (inl as-before) = inl (same ∙ as-before)
+  waits-still same (inr (undecided, (w, is, its))) = inr (undecided, (w, same ∙ is, its))
+
+  -- it begins to wait where the core stops without it
+  waits-from-here : BeginsToWait core asked new → WaitsSince old request new
+  waits-from-here waits =
+      let here : (ticked_on core).counter ≡ top old.config old.history None =
+      waits.stopped
+      ∙ ap (λ (v : Option Waiting). top core.config core.history (option_map request_waiting v)) waits.idle
+      ∙ ap (λ (c : CoreState). top c.config c.history None) still.later.is in
+      let undecided : reply_to old.config old.history request (ticked_on core).counter ≡ None =
+      subst (λ (q : Request). reply_to old.config old.history q (ticked_on core).counter ≡ None) still.same
+      (subst (λ (c : CoreState). reply_to c.config c.history asked (ticked_on core).counter ≡ None) still.later.is waits.undecided) in
+      inr (
+        subst (λ (n : ℕ). reply_to old.config old.history request n ≡ None) here undecided,
+        (waits.waiting, ap (λ (c : CoreState). c.waiting) waits.leaves, waits.same ∙ still.same),
+      )
+
   -- asked again
   pub again-asked : (chair : ℕ) (back : Request) → IsTurn core chair asked (Again back) new → IsAskedStill old request new back
   again-asked chair back (same, inl goes) = record {
     same = same ∙ still.same;
     later = later-on old core new still.later (ticks-later core new goes.1);
     free = subst (λ (v : Option Waiting). NoOtherWaits v request) (sym (ap (λ (c : CoreState). c.waiting) goes.1)) still.free;
+    waits = waits-still (ap (λ (c : CoreState). c.waiting) goes.1) still.waits;
   }
   again-asked chair back (same, inr (inl waits)) = record {
     same = same ∙ still.same;
     later = later-on old core new still.later (waits-later core new waits.waiting waits.leaves);
     free = subst (λ (v : Option Waiting). NoOtherWaits v request) (sym (ap (λ (c : CoreState). c.waiting) waits.leaves)) (waits.same ∙ still.same);
+    waits = waits-from-here waits;
   }
   again-asked chair back (same, inr (inr other)) =
       absurd (other.differs (subst (λ (v : Option Waiting). NoOtherWaits v request) other.is still.free ∙ sym still.same))
@@ -92,6 +120,28 @@ module _ (old core new : CoreState) (request asked : Request) (still : IsAskedSt
 
   pub over-decided : (chair : ℕ) → IsTurn core chair asked Over new → IsNeverAnswered old request new
   over-decided chair turn = later-undecided old core new still.later request (subst (λ (q : Request). IsUndecided core q new) still.same turn)
+
+  pub over-waits : (chair : ℕ) → IsTurn core chair asked Over new → WaitsFor new request
+  over-waits chair turn = (turn.waiting, ap (λ (c : CoreState). c.waiting) turn.leaves, turn.same ∙ still.same)
+
+  -- or held up
+  pub held-up : new ≡ ticked_on core → IsSome (reply_to core.config core.history asked (ticked_on core).counter)
+      → (ticked_on core).counter ≡ top core.config core.history (Some asked) → IsHeldUp old request new
+  held-up is decided at =
+      let here : new.counter ≡ (ticked_on core).counter = ap (λ (c : CoreState). c.counter) is in
+      let known : IsSome (reply_to old.config old.history request (ticked_on core).counter) =
+      subst (λ (q : Request). IsSome (reply_to old.config old.history q (ticked_on core).counter)) still.same
+      (subst (λ (c : CoreState). IsSome (reply_to c.config c.history asked (ticked_on core).counter)) still.later.is decided) in
+      record {
+        later = later-on old core new still.later (ticks-later core new is);
+        at_top =
+            here
+            ∙ at
+            ∙ ap (λ (c : CoreState). top c.config c.history (Some asked)) still.later.is
+            ∙ ap (λ (q : Request). top old.config old.history (Some q)) still.same;
+        decided = subst (λ (n : ℕ). IsSome (reply_to old.config old.history request n)) (sym here) known;
+        waits = waits-still (ap (λ (c : CoreState). c.waiting) is) still.waits;
+      }
 
   pub open-still : (chair : ℕ) → IsOpenFor chair old.history → IsOpenFor chair core.history
   open-still chair opened = subst (λ (c : CoreState). IsOpenFor chair c.history) (sym still.later.is) opened

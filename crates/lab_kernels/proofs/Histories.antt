@@ -15,6 +15,7 @@ use Rattle.rtio_core.specs.Lawful.{AreFitting}
 use Rattle.core_session.specs.Scripts.{HasNumber, HaveNumbers}
 use Rattle.core_session.specs.Sessions.{Answered, asked_entry, entry_of, replies_of, requests_of}
 use Rattle.core_session.specs.Standing.{Session}
+use Rattle.lab_kernels.specs.CutShort.{AreAsked}
 use Rattle.lab_kernels.specs.Kernels.{AreAskedAtTop, ArePrompt, IsAskedAtTop, IsPrompt}
 use Rattle.lab_kernels.specs.Standing.{entries_so_far, history_of}
 
@@ -50,6 +51,13 @@ at-top-push config before [] entry old new = let P : List Entry → Type 0 = λ 
 at-top-push config before (e ∷ rest) entry old new =
     let P : List Entry → Type 0 = λ h. IsAskedAtTop config h entry.act in
     (old.0, at-top-push config (before ++ e ∷ []) rest entry old.1 (subst P (sym (append_assoc before (e ∷ []) rest)) new))
+
+-- one request more is asked
+pub asked-push : (Asks : List Answered → Request → Type 0) (before asked : List Answered) (a : Answered) → AreAsked Asks before asked → Asks (before ++ asked) a.request → AreAsked Asks before (asked ++ a ∷ [])
+asked-push Asks before [] a old new = let P : List Answered → Type 0 = λ h. Asks h a.request in (subst P (append-nil before) new, tt)
+asked-push Asks before (b ∷ rest) a old new =
+    let P : List Answered → Type 0 = λ h. Asks h a.request in
+    (old.0, asked-push Asks (before ++ b ∷ []) rest a old.1 (subst P (sym (append_assoc before (b ∷ []) rest)) new))
 
 -- answered requests are prompt, and so is one prompt entry behind them
 prompt-behind : (chair : ℕ) (before : List Entry) (asked : List Answered) (entry : Entry) → IsPrompt (before ++ map (asked_entry chair) asked) entry.act → ArePrompt before (map (asked_entry chair) asked ++ entry ∷ [])

@@ -1,6 +1,6 @@
 mod AtTop
 pub mod Turned
-mod Growing
+mod Later
 mod Deciding
 pub mod Histories
 pub mod Steps

@@ -1,20 +1,16 @@
 -- A session that is played to its end.
-use Rattle.std.proofs.Common.{◌≡◌, ℕ, suc, ◌+◌, ◌-◌, ◌<◌, List, [], ◌∷◌, ◌++◌, length, map, Some, None, refl, sym, ap, ◌∙◌, append_assoc, length-append, arith}
+use Rattle.std.proofs.Common.{◌≡◌, ℕ, suc, ◌+◌, ◌-◌, ◌<◌, List, [], ◌∷◌, ◌++◌, length, map, Some, None, refl, ap, ◌∙◌, length-append, arith}
 use Rattle.std.proofs.lemmas.List.{length-map}
-use Rattle.std.proofs.lemmas.List.Elements.{All-cons, All-nil}
-use Rattle.std.specs.List.{All}
 use Rattle.std.specs.Prelude.{Option}
 use Rattle.rtio_types.specs.declared.outcome.Outcome.{Outcome}
-use Rattle.rtio_core.specs.declared.data.Act.TheVariants.{Start}
 use Rattle.rtio_core.specs.declared.data.Entry.{Entry}
 use Rattle.rtio_core.specs.Core.{CoreState}
 use Rattle.sched_state.specs.declared.entry.DataSet.{DataSet}
 use Rattle.core_cpu.specs.Moments.{Moment}
-use Rattle.core_session.specs.Sessions.{Answered, asked_entry, entry_of}
+use Rattle.core_session.specs.Sessions.{Answered, asked_entry}
 use Rattle.core_session.specs.Standing.{Session}
-use Rattle.lab_kernels.specs.Growing.{GrowsBy}
-use Rattle.lab_kernels.specs.Standing.{Begins, HasBegun, HasPlayed, HasUnderWay, IsUnderWay, LeadsTo, entries_so_far}
-use Rattle.lab_kernels.proofs.Growing.{grows-on}
+use Rattle.lab_kernels.specs.Standing.{Begins, HasBegun, HasLeft, HasPlayed, HasUnderWay, IsUnderWay, LeadsTo, entries_so_far}
+use Rattle.lab_kernels.proofs.Steps.{Leaves}
 
 -- so many requests may still be answered
 abbrev pub requests_left : (old : CoreState) → Moment → CoreState → ℕ
@@ -41,28 +37,12 @@ length-open chair s asked core now sets way =
     let rest : length (map (asked_entry chair) asked) ≡ length asked = length-map asked (asked_entry chair) in
     omega (arith, whole, first, rest)
 
-own-answers : (chair : ℕ) (asked : List Answered) → All (λ (entry : Entry). entry.chair ≡ chair) (map (asked_entry chair) asked)
-own-answers chair [] = All-nil (λ (entry : Entry). entry.chair ≡ chair)
-own-answers chair (a ∷ asked) = All-cons (λ (entry : Entry). entry.chair ≡ chair) (asked_entry chair a) (map (asked_entry chair) asked) refl (own-answers chair asked)
-
--- a session under way has grown by answered requests of its chair
-grows-open : (chair : ℕ) (s : Session) (asked : List Answered) (old core : CoreState) (was now : Moment) (none sets : List DataSet) → Begins chair s old was none → IsUnderWay chair s asked core now sets → GrowsBy chair old core
-grows-open chair s asked old core was now none sets b way = record {
-  config = way.entries.config ∙ sym b.opened.entries.config;
-  entries = map (asked_entry chair) asked;
-  history =
-      way.entries.history
-      ∙ sym (append_assoc s.before.history (entry_of chair (Start s.of s.start.cursor s.before.counter) ∷ []) (map (asked_entry chair) asked))
-      ∙ ap (λ (h : List Entry). h ++ map (asked_entry chair) asked) (sym b.opened.entries.history);
-  own = own-answers chair asked;
-}
-
 module _ (chair : ℕ) (old : CoreState) (was : Moment) (none : List DataSet) (core : CoreState) (now : Moment) (sets : List DataSet) (so : SoFar chair old was none core now sets) where
   pub so-far-open : HasUnderWay chair core now sets
   so-far-open = let a = so.along so.begun.0 so.begun.1 in (so.begun.0, a.0, a.1)
 
-  pub so-far-left : (new : CoreState) → GrowsBy chair core new → GrowsBy chair old new
-  so-far-left new more = let a = so.along so.begun.0 so.begun.1 in grows-on chair old core new (grows-open chair so.begun.0 a.0 old core was now none sets so.begun.1 a.1) more
+  pub so-far-left : (new : CoreState) → Leaves chair core now sets new → (s : Session) → Begins chair s old was none → HasLeft chair s new
+  so-far-left new leaves s b = let a = so.along s b in (a.0, leaves s a.0 a.1)
 
   pub so-far-last : (new : CoreState) (next : Moment) (more : List DataSet) (how : Outcome) → Leads chair core now sets new next more (Some how) → (s : Session) → Begins chair s old was none → HasPlayed chair s new next more how
   so-far-last new next more how leads s b = let a = so.along s b in (a.0, leads s a.0 a.1)

@@ -1,8 +1,8 @@
 -- The steps of a session.
-use Rattle.std.proofs.Common.{◌≡◌, ℕ, ◌+◌, ◌≤◌, List, [], ◌∷◌, ◌++◌, length, false, Some, None, IsTrue, refl, sym, ap, subst, ◌∙◌, length-append, append-nil, arith}
+use Rattle.std.proofs.Common.{◌≡◌, ℕ, ◌+◌, ◌≤◌, List, [], ◌∷◌, ◌++◌, length, false, inl, inr, Some, None, IsTrue, refl, sym, ap, subst, ◌∙◌, length-append, append-nil, arith}
 use Rattle.std.proofs.lemmas.List.{length-map, map-append}
 use Rattle.std.proofs.lemmas.List.Elements.{filter_map-append}
-use Rattle.std.specs.Prelude.{ℤ, Option, option_to_list}
+use Rattle.std.specs.Prelude.{◌⊎◌, ℤ, Option, IsSome, option_to_list}
 use Rattle.rtio_types.specs.declared.outcome.Outcome.{Outcome}
 use Rattle.rtio_types.specs.declared.outcome.Outcome.TheVariants as outcome
 use Rattle.rtio_types.specs.declared.request.Request.{Request}
@@ -18,6 +18,7 @@ use Rattle.rtio_core.specs.Core.{CoreState}
 use Rattle.rtio_core.specs.Entries.{last_at, open_session}
 use Rattle.rtio_core.specs.Lawful.{AreFitting, IsOpenFor}
 use Rattle.rtio_core.specs.Reply.{reply_to}
+use Rattle.rtio_core.specs.Top.{top}
 use Rattle.sched_state.specs.declared.entry.DataSet.{DataSet}
 use Rattle.core_isa.proofs.UnitsTaken.{requests_take_units}
 use Rattle.core_isa.specs.declared.code.Code.{Code}
@@ -34,10 +35,11 @@ use Rattle.core_cpu.specs.Standing.{AsksNext, HasEnded, Start as Beginning, Stan
 use Rattle.core_session.specs.Scripts.{HasNumber, HaveNumbers}
 use Rattle.core_session.specs.Sessions.{Answered, EndsAs, account_of, asked_entry, entry_of, replies_of, requests_of}
 use Rattle.core_session.specs.Standing.{Session}
-use Rattle.lab_kernels.specs.Decided.{IsAnswered, IsNeverAnswered}
+use Rattle.lab_kernels.specs.CutShort.{CodeAsks}
+use Rattle.lab_kernels.specs.Decided.{IsAnswered, IsHeldUp, IsNeverAnswered, WaitsFor}
 use Rattle.lab_kernels.specs.Kernels.{AreAskedAtTop, IsEndInTime, IsPromptEnd, set_by, sets_of}
-use Rattle.lab_kernels.specs.Standing.{HasAnswered, HasAsking, HasUnderWay, IsAsking, IsUnderWay, LeadsTo, entries_so_far, history_of}
-use Rattle.lab_kernels.proofs.Histories.{at-top-push, entries-push, fits-history, history-push, last-at-push, numbers-push, open-history}
+use Rattle.lab_kernels.specs.Standing.{HasAnswered, HasAsking, HasUnderWay, IsAsking, IsLeftOpen, IsUnderWay, LeadsTo, entries_so_far, history_of}
+use Rattle.lab_kernels.proofs.Histories.{asked-push, at-top-push, entries-push, fits-history, history-push, last-at-push, numbers-push, open-history}
 
 -- ---- runs
 
@@ -60,6 +62,10 @@ runs-ended : (s : Session) (asked : List Answered) (how : Outcome) (now : Moment
 runs-ended s asked how now same ended =
     subst (λ (code : Code). Runs code s.start.function s.start.args s.start.cursor s.start.units (replies_of asked) (ran-ended asked ended.end now)) same ended.run
 
+-- so the code asks it behind these
+code-asks : (s : Session) (asked : List Answered) (request : Request) (now : Moment) → now.code ≡ s.code → AsksNext s.start (requests_of asked) (replies_of asked) request now → CodeAsks s.code s.start asked request
+code-asks s asked request now same asks = record { ran = ran-asking asked request now; runs = runs-asking s asked request now same asks; lacks = (refl, refl) }
+
 -- each request took a unit
 few-more : (s : Session) (asked : List Answered) (a : Answered) (now : Moment) → now.code ≡ s.code → AsksNext s.start (requests_of asked) (replies_of asked) a.request now → length (asked ++ a ∷ []) ≤ s.start.units
 few-more s asked a now same asks =
@@ -78,6 +84,11 @@ module _ (chair : ℕ) (s : Session) (asked : List Answered) (core : CoreState) 
 
   pub fitting-now : AreFitting core.history → AreFitting (history_of chair s asked)
   fitting-now fit = subst AreFitting has.history fit
+
+  replies-fit : AreFitting core.history → RepliesFit (requests_of asked) (replies_of asked)
+  replies-fit fit =
+      subst (λ (requests : List Request). RepliesFit requests (replies_of asked)) (append-nil (requests_of asked))
+      (fits-history chair s asked [] (fitting-now fit))
 
   pub free-now : (request : Request) → NoOtherWaits core.waiting request
   free-now request = subst (λ (v : Option Waiting). NoOtherWaits v request) (sym has.waiting) tt
@@ -174,7 +185,13 @@ module _ (chair : ℕ) (s : Session) (asked : List Answered) (request : Request)
     history = answered-history;
     waiting = ap (λ (c : CoreState). c.waiting) is.leaves;
     steady = ap (λ (c : CoreState). c.counter) is.leaves ∙ sym (ap (λ (c : CoreState). last_at c.history) is.leaves ∙ last-at-push old.history (asked_entry chair one));
+    later =
+        let there : new.counter ≡ is.at = ap (λ (c : CoreState). c.counter) is.leaves in
+        let first = asking.entries.later in
+        let up = is.later in
+        omega (arith, there, first, up);
     at_top = answered-at-top;
+    asks = asked-push (CodeAsks s.code s.start) [] asked one asking.entries.asks (code-asks s asked request mid asking.code asking.asks);
     numbers = subst HaveNumbers (sym replies-more) (numbers-push (replies_of asked) reply asking.entries.numbers number);
     few = few-more s asked one mid asking.code asking.asks;
     sets_are = answered-sets;
@@ -238,9 +255,7 @@ ended-leads chair s asked old new was now sets how cursor fit same stops way at 
       ends = subst (λ (z : ℤ). EndsAs s.before.config (history_of chair s asked) asked (account_of (ran-ended asked ended'.end now)) how z) (sym at)
           (ends-as s.before.config (history_of chair s asked) asked ended'.end now how ended'.is);
       count = refl;
-      fit =
-          subst (λ (requests : List Request). RepliesFit requests (replies_of asked)) (append-nil (requests_of asked))
-          (fits-history chair s asked [] (fitting-now chair s asked old sets way.entries fit));
+      fit = replies-fit chair s asked old sets way.entries fit;
       numbers = way.entries.numbers;
       sets_are = way.entries.sets_are;
     }
@@ -314,3 +329,85 @@ never-leads chair s asked request old mid new now sets more cursor fit never kep
         ∙ ap (λ (c : CoreState). c.history ++ entry_of chair (End outcome.Horizon cursor mid.counter) ∷ []) never.later.is
         ∙ ap (λ (h : List Entry). h ++ entry_of chair (End outcome.Horizon cursor mid.counter) ∷ []) asking.entries.history
         ∙ ap (λ (n : ℕ). history_of chair s asked ++ entry_of chair (End outcome.Horizon cursor n) ∷ []) (sym (ap (λ (c : CoreState). c.counter) is))
+
+-- ---- without memory
+
+-- how each session that was under way is left
+abbrev pub Leaves : (chair : ℕ) → CoreState → Moment → List DataSet → CoreState → Type 0
+Leaves chair old was sets new = (s : Session) (asked : List Answered) → IsUnderWay chair s asked old was sets → IsLeftOpen chair s asked new
+
+-- and each that asked a request
+abbrev pub LeavesAsking : (chair : ℕ) → Request → CoreState → Moment → List DataSet → CoreState → Type 0
+LeavesAsking chair request old was sets new = (s : Session) (asked : List Answered) → IsAsking chair s asked request old was sets → IsLeftOpen chair s asked new
+
+-- the core is as behind the last answered request
+pub left-still : (chair : ℕ) (s : Session) (asked : List Answered) (old new : CoreState) (sets : List DataSet) → AreFitting old.history → HasAnswered chair s asked old sets → new ≡ old → IsLeftOpen chair s asked new
+left-still chair s asked old new sets fit has is =
+    subst (IsLeftOpen chair s asked) (sym is) (record {
+      config = has.config;
+      history = has.history;
+      later = has.later;
+      at_top = has.at_top;
+      asks = has.asks;
+      fit = replies-fit chair s asked old sets has fit;
+      numbers = has.numbers;
+      stands = inl (has.steady, has.waiting);
+    })
+
+module _ (chair : ℕ) (s : Session) (asked : List Answered) (request : Request) (old : CoreState) (now : Moment) (sets : List DataSet) (fit : AreFitting old.history) (asking : IsAsking chair s asked request old now sets) where
+  next-asks : CodeAsks s.code s.start asked request
+  next-asks = code-asks s asked request now asking.code asking.asks
+
+  -- the next request would get its reply
+  pub left-due : (new : CoreState) → IsHeldUp old request new → IsLeftOpen chair s asked new
+  left-due new held =
+      let first = asking.entries.later in
+      let up = held.later.later in
+      record {
+        config = ap (λ (c : CoreState). c.config) held.later.is ∙ asking.entries.config;
+        history = ap (λ (c : CoreState). c.history) held.later.is ∙ asking.entries.history;
+        later = omega (arith, first, up);
+        at_top = asking.entries.at_top;
+        asks = asking.entries.asks;
+        fit = replies-fit chair s asked old sets asking.entries fit;
+        numbers = asking.entries.numbers;
+        stands = inr (
+          request,
+          next-asks,
+          inl (record {
+            at_top = held.at_top ∙ sym (ap (λ (c : CoreState). top c.config c.history (Some request)) held.later.is);
+            decided = subst (λ (c : CoreState). IsSome (reply_to c.config c.history request new.counter)) (sym held.later.is) held.decided;
+            waits = waits held.waits;
+          }),
+        );
+      }
+    where
+      waits : (new.waiting ≡ old.waiting) ⊎ ((reply_to old.config old.history request (top old.config old.history None) ≡ None) × WaitsFor new request)
+          → (new.waiting ≡ None) ⊎ ((reply_to new.config new.history request (top new.config new.history None) ≡ None) × WaitsFor new request)
+      waits (inl same) = inl (same ∙ asking.entries.waiting)
+      waits (inr (undecided, its)) =
+          inr (subst (λ (c : CoreState). reply_to c.config c.history request (top c.config c.history None) ≡ None) (sym held.later.is) undecided, its)
+
+  -- or it waits at the horizon
+  pub left-in-vain : (mid new : CoreState) → IsNeverAnswered old request mid → WaitsFor mid request → new ≡ mid → IsLeftOpen chair s asked new
+  left-in-vain mid new never waits is =
+      let first = asking.entries.later in
+      let up = never.later.later in
+      subst (IsLeftOpen chair s asked) (sym is) (record {
+        config = ap (λ (c : CoreState). c.config) never.later.is ∙ asking.entries.config;
+        history = ap (λ (c : CoreState). c.history) never.later.is ∙ asking.entries.history;
+        later = omega (arith, first, up);
+        at_top = asking.entries.at_top;
+        asks = asking.entries.asks;
+        fit = replies-fit chair s asked old sets asking.entries fit;
+        numbers = asking.entries.numbers;
+        stands = inr (
+          request,
+          next-asks,
+          inr (record {
+            last = never.last ∙ sym (ap (λ (c : CoreState). c.config.horizon) never.later.is);
+            undecided = subst (λ (c : CoreState). reply_to c.config c.history request c.config.horizon ≡ None) (sym never.later.is) never.undecided;
+            waits = waits;
+          }),
+        );
+      })

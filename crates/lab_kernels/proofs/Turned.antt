@@ -1,6 +1,6 @@
 -- A request that is asked where the core has stopped.
 use Rattle.std.proofs.Common.{◌≡◌, ◌≢◌, ℕ, ◌+◌, ◌-◌, ◌<◌, ◌≤◌, inl, inr, true, false, refl, sym, ap, subst, ◌∙◌, arith}
-use Rattle.std.specs.Prelude.{Bool, Option, Some, None, option_map, is_some, min, IsTrue, ◌↔◌}
+use Rattle.std.specs.Prelude.{Bool, Option, Some, None, option_map, is_some, min, IsSome, IsTrue, ◌↔◌}
 use Rattle.std.proofs.lemmas.Bool.{both_ways}
 use Rattle.rtio_types.specs.declared.request.Request.{Request}
 use Rattle.rtio_types.specs.declared.request.Reply.{Reply}
@@ -55,6 +55,12 @@ module _ (old mid new : CoreState) (who : ℕ) (request : Request) (is : mid ≡
         right = right;
         leaves = answers.2 ∙ ap (λ (c : CoreState). answered c who request reply) is;
       }
+
+  -- where there is a reply, but no memory for it, it would stand there too
+  pub due-so : NoOtherWaits mid.waiting request → IsSome (reply_to mid.config mid.history request mid.counter) → (ticked_on old).counter ≡ top old.config old.history (Some request)
+  due-so free decided =
+      at-top old.waiting refl (subst (λ (c : CoreState). NoOtherWaits c.waiting request) is free)
+      (subst (λ (c : CoreState). IsSome (reply_to c.config c.history request c.counter)) is decided)
 
   module _ (until : ℕ) (w : Waiting) (answers : AnswersAsk mid who request (ask.NotYet until w) new) where
     free : NoOtherWaits old.waiting request

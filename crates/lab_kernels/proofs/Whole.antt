@@ -1,5 +1,5 @@
 -- The whole session, from the core before it.
-use Rattle.std.proofs.Common.{◌≡◌, ℕ, List, [], ◌∷◌, false, refl, sym, ap, subst, ◌∙◌, append_assoc, arith}
+use Rattle.std.proofs.Common.{◌≡◌, ℕ, List, [], ◌∷◌, false, inl, refl, sym, ap, subst, ◌∙◌, append_assoc, arith}
 use Rattle.std.specs.Prelude.{ℤ, FitsSigned}
 use Rattle.std.specs.Int.{w64}
 use Rattle.rtio_types.specs.declared.outcome.Outcome.{Outcome}
@@ -15,9 +15,10 @@ use Rattle.core_cpu.specs.Moments.{Moment, is_asking}
 use Rattle.core_cpu.specs.Standing.{Stands}
 use Rattle.core_session.specs.Sessions.{beginning_of, entry_of, requests_of}
 use Rattle.core_session.specs.Standing.{Session}
+use Rattle.lab_kernels.specs.CutShort.{CutsCode}
 use Rattle.lab_kernels.specs.Kernels.{KernelRun, sets_of}
 use Rattle.lab_kernels.specs.Runs.{HasRun}
-use Rattle.lab_kernels.specs.Standing.{Begins, HasPlayed, entries_so_far}
+use Rattle.lab_kernels.specs.Standing.{Begins, HasLeft, HasPlayed, entries_so_far}
 use Rattle.lab_kernels.proofs.Histories.{last-at-push, prompt-session}
 
 -- the session that the core will have
@@ -55,7 +56,9 @@ begins chair code of units old mid now none is booted nothing = record {
       history = ap (λ (c : CoreState). c.history) is;
       waiting = ap (λ (c : CoreState). c.waiting) is;
       steady = subst (λ (c : CoreState). c.counter ≡ last_at c.history) (sym is) (sym (last-at-push old.history _));
+      later = let same : mid.counter ≡ old.counter = ap (λ (c : CoreState). c.counter) is in omega (arith, same);
       at_top = (tt, tt);
+      asks = tt;
       numbers = tt;
       few = omega arith;
       sets_are = nothing;
@@ -106,3 +109,47 @@ has-run chair code of units old mid new was now none sets how steps is booted no
       };
       told = ap (λ (l : List DataSet). record { outcome = how; sets = l; steps = steps }) closed.sets_are ∙ ap (λ (n : ℕ). record { outcome = how; sets = sets_of (requests_of played.0); steps = n }) counts;
     }
+
+-- ---- without memory
+
+module _ (chair : ℕ) (code : Code) (of : StartOf) (units : ℕ) (old mid : CoreState) (begun : mid ≡ started old chair of (last_cursor old.history)) where
+  -- no request was asked
+  pub cut-at-start : FitsSigned w64 (last_cursor old.history) → CutsCode code units chair of old mid
+  cut-at-start from = record {
+    cut = record {
+      asked = [];
+      history = ap (λ (c : CoreState). c.history) begun;
+      config = ap (λ (c : CoreState). c.config) begun;
+      later = let same : mid.counter ≡ old.counter = ap (λ (c : CoreState). c.counter) begun in omega (arith, same);
+      at_top = (tt, tt);
+      asks = tt;
+      stands = inl (
+        subst (λ (c : CoreState). c.counter ≡ last_at c.history) (sym begun) (sym (last-at-push old.history _)),
+        ap (λ (c : CoreState). c.waiting) begun,
+      );
+    };
+    fit = λ k request reply found answer. absurd (cc);
+    numbers = tt;
+    from = from;
+  }
+
+  -- or some were
+  pub cut-later : (was : Moment) (none : List DataSet) (new : CoreState) → IsBooted code of units old was → none ≡ []
+      → ((s : Session) → Begins chair s mid was none → HasLeft chair s new)
+      → CutsCode code units chair of old new
+  cut-later was none new booted nothing leaves =
+      let left = leaves (session_of code of units old) (begins chair code of units old mid was none begun booted nothing) in
+      record {
+        cut = record {
+          asked = left.0;
+          history = left.1.history;
+          config = left.1.config;
+          later = left.1.later;
+          at_top = left.1.at_top;
+          asks = left.1.asks;
+          stands = left.1.stands;
+        };
+        fit = left.1.fit;
+        numbers = left.1.numbers;
+        from = booted.from;
+      }

@@ -1,7 +1,7 @@
 pub mod Turns
 pub mod Kernels
-pub mod Growing
 pub mod Decided
+pub mod CutShort
 pub mod Standing
 pub mod Runs
 pub mod Meanings

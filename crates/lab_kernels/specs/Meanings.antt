@@ -1,5 +1,6 @@
 -- What a compiled kernel that was run leaves on a core.
-use Rattle.std.specs.Prelude.{◌≡◌, ℕ, List, ◌++◌}
+use Rattle.std.specs.Prelude.{◌≡◌, ◌⊎◌, ℕ, List, ◌++◌}
+use Rattle.rtio_types.specs.declared.request.Request.{Request}
 use Rattle.rtio_core.specs.declared.data.Config.{Config}
 use Rattle.rtio_core.specs.declared.data.Entry.{Entry}
 use Rattle.rtio_core.specs.declared.data.StartOf.{StartOf}
@@ -9,9 +10,10 @@ use Rattle.sched_state.specs.declared.entry.KernelResult.{KernelResult}
 use Rattle.core_isa.specs.declared.code.Code.{Code}
 use Rattle.core_cpu.specs.Standing.{Start as Beginning}
 use Rattle.kern_syntax.specs.Tree.{ProgramTree}
-use Rattle.core_session.specs.Sessions.{EndsAs, replies_of}
+use Rattle.core_session.specs.Sessions.{Answered, EndsAs, beginning_of, replies_of}
 use Rattle.kernel_session.specs.Meant.{account_of_meaning, meant, script_of}
 use Rattle.kernel_session.specs.Replays.{PlaysRecordings}
+use Rattle.lab_kernels.specs.CutShort.{IsCutShort, LacksReply}
 use Rattle.lab_kernels.specs.Kernels.{AreAskedAtTop, KernelRun, entries_until_end, session_entries}
 use Rattle.lab_kernels.specs.Runs.{HasRun, RunsCode}
 
@@ -35,6 +37,14 @@ pub record MeansProgram (program : ProgramTree) (units chair : ℕ) (config : Co
 pub record RunsKernel (program : ProgramTree) (code : Code) (units chair : ℕ) (of : StartOf) (old new : CoreState) (result : KernelResult) : Type 0 where
   pub ran : HasRun code units chair of old new result
   pub means : MeansProgram program units chair old.config old.history ran.k
+
+-- under the replies to these the program's meaning asks this request next
+abbrev pub ProgramAsks : ProgramTree → Beginning → List Answered → Request → Type 0
+ProgramAsks program start asked request = LacksReply (account_of_meaning (meant program start (replies_of asked))) asked request
+
+-- without memory the core is as before, or its session of the program's meaning was cut short
+abbrev pub LeavesKernel : ProgramTree → (units chair : ℕ) → StartOf → CoreState → CoreState → Type 0
+LeavesKernel program units chair of old new = (new ≡ old) ⊎ IsCutShort (ProgramAsks program (beginning_of of units old)) chair of old new
 
 -- a session of the chair is all that stands in the later history behind the earlier. It was started for this; each request stands at
 -- its top, and an end at the horizon there; and it is one of the code, and of the program's meaning

@@ -14,6 +14,7 @@ use Rattle.core_cpu.specs.Standing.{AsksNext, Stands}
 use Rattle.core_session.specs.Scripts.{HaveNumbers}
 use Rattle.core_session.specs.Sessions.{Answered, EndsAs, account_of, entry_of, open_entries, replies_of, requests_of}
 use Rattle.core_session.specs.Standing.{Session}
+use Rattle.lab_kernels.specs.CutShort.{AreAsked, CodeAsks, IsStopped}
 use Rattle.lab_kernels.specs.Kernels.{AreAskedAtTop, IsPromptEnd, sets_of}
 
 -- the entries of the session so far
@@ -24,14 +25,16 @@ entries_so_far chair s asked = open_entries chair s.of s.start.cursor s.before.c
 abbrev pub history_of : (chair : ℕ) → Session → List Answered → List Entry
 history_of chair s asked = s.before.history ++ entries_so_far chair s asked
 
--- the core has these answered requests of the session, each asked at its top; it has not ticked since the last, and nothing
--- waits; and these datasets are the ones that they set
+-- the core has these answered requests of the session, each the one that the code asked next, and asked at its top; it has not
+-- ticked since the last, and nothing waits; and these datasets are the ones that they set
 pub record HasAnswered (chair : ℕ) (s : Session) (asked : List Answered) (core : CoreState) (sets : List DataSet) : Type 0 where
   pub config : core.config ≡ s.before.config
   pub history : core.history ≡ history_of chair s asked
   pub waiting : core.waiting ≡ None
   pub steady : core.counter ≡ last_at core.history
+  pub later : s.before.counter ≤ core.counter
   pub at_top : AreAskedAtTop s.before.config s.before.history (entries_so_far chair s asked)
+  pub asks : AreAsked (CodeAsks s.code s.start) [] asked
   pub numbers : HaveNumbers (replies_of asked)
   pub few : length asked ≤ s.start.units
   pub sets_are : sets ≡ sets_of (requests_of asked)
@@ -79,6 +82,17 @@ abbrev pub LeadsTo : (chair : ℕ) → Session → List Answered → CoreState �
 LeadsTo chair s asked core now sets None = (a : Answered) × IsUnderWay chair s (asked ++ a ∷ []) core now sets
 LeadsTo chair s asked core now sets (Some how) = HasClosed chair s asked core now sets how
 
+-- want of memory left it with just these answered requests
+pub record IsLeftOpen (chair : ℕ) (s : Session) (asked : List Answered) (core : CoreState) : Type 0 where
+  pub config : core.config ≡ s.before.config
+  pub history : core.history ≡ history_of chair s asked
+  pub later : s.before.counter ≤ core.counter
+  pub at_top : AreAskedAtTop s.before.config s.before.history (entries_so_far chair s asked)
+  pub asks : AreAsked (CodeAsks s.code s.start) [] asked
+  pub fit : RepliesFit (requests_of asked) (replies_of asked)
+  pub numbers : HaveNumbers (replies_of asked)
+  pub stands : IsStopped (CodeAsks s.code s.start asked) core
+
 -- a session has just begun
 pub record Begins (chair : ℕ) (s : Session) (core : CoreState) (now : Moment) (sets : List DataSet) : Type 0 where
   pub opened : IsUnderWay chair s [] core now sets
@@ -90,3 +104,7 @@ HasBegun chair core now sets = (s : Session) × Begins chair s core now sets
 -- it was played to its end
 abbrev pub HasPlayed : (chair : ℕ) → Session → CoreState → Moment → List DataSet → Outcome → Type 0
 HasPlayed chair s core now sets how = (asked : List Answered) × HasClosed chair s asked core now sets how
+
+-- or to where want of memory left it
+abbrev pub HasLeft : (chair : ℕ) → Session → CoreState → Type 0
+HasLeft chair s core = (asked : List Answered) × IsLeftOpen chair s asked core

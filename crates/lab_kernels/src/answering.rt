@@ -6,9 +6,8 @@ ghost use Rattle.rtio_core.specs.Lawful.{IsOpenFor};
 ghost use Rattle.core_session.specs.Scripts.{HasNumber};
 ghost use Rattle.core_session.specs.Sessions.{Answered};
 ghost use Rattle.core_session.specs.Standing.{Session};
-ghost use Rattle.lab_kernels.specs.Growing.{GrowsBy};
 ghost use Rattle.lab_kernels.specs.Kernels.{set_by};
-ghost use Rattle.lab_kernels.specs.Standing.{HasAsking, HasUnderWay, IsAsking, IsUnderWay, LeadsTo};
+ghost use Rattle.lab_kernels.specs.Standing.{HasAsking, HasUnderWay, IsAsking, IsLeftOpen, IsUnderWay, LeadsTo};
 
 use crate::asking::ask_until_decided;
 use core_cpu::{Cpu, Stop};
@@ -29,7 +28,8 @@ pub fn go_on(
     requires { HasUnderWay who core.old cpu.old sets.old.items }
     ensures leads { IfOk result (λ end. (s : Session) (asked : List Answered) → IsUnderWay who s asked core.old cpu.old sets.old.items
         → LeadsTo who s asked core.new cpu.new sets.new.items end) }
-    ensures err { OnErr result (GrowsBy who core.old core.new) }
+    ensures err { OnErr result ((s : Session) (asked : List Answered) → IsUnderWay who s asked core.old cpu.old sets.old.items
+        → IsLeftOpen who s asked core.new) }
 {
     let _known = core.history();
     let stop = cpu.advance(alloc)?;
@@ -54,7 +54,8 @@ fn answer(
     requires { HasAsking who request core.old cpu.old sets.old.items }
     ensures leads { IfOk result (λ end. (s : Session) (asked : List Answered) → IsAsking who s asked request core.old cpu.old sets.old.items
         → LeadsTo who s asked core.new cpu.new sets.new.items end) }
-    ensures err { OnErr result (GrowsBy who core.old core.new) }
+    ensures err { OnErr result ((s : Session) (asked : List Answered) → IsAsking who s asked request core.old cpu.old sets.old.items
+        → IsLeftOpen who s asked core.new) }
 {
     let _known = core.history();
     // First of all, so that for want of memory nothing was asked. A request that sets a dataset is always decided.

@@ -1,11 +1,10 @@
 // Asking until there is a reply.
 
-ghost use Rattle.std.specs.Prelude.{IfOk, IsTrue, OnErr};
+ghost use Rattle.std.specs.Prelude.{◌≡◌, IfOk, IsTrue, None, OnErr};
 ghost use Rattle.rtio_types.specs.Requests.{is_well_formed};
 ghost use Rattle.rtio_core.specs.Calls.{NoOtherWaits};
 ghost use Rattle.rtio_core.specs.Lawful.{IsOpenFor};
-ghost use Rattle.lab_kernels.specs.Decided.{IsDecided};
-ghost use Rattle.lab_kernels.specs.Growing.{IsLater};
+ghost use Rattle.lab_kernels.specs.Decided.{IsDecided, IsHeldUp, WaitsFor};
 
 use crate::turn::{Turn, ask_stopped};
 use rtio_core::Core;
@@ -24,7 +23,9 @@ pub fn ask_until_decided(
     requires formed { IsTrue (is_well_formed request) }
     requires free { NoOtherWaits core.old.waiting request }
     ensures decided { IfOk result (λ reply. IsDecided core.old who request reply core.new) }
-    ensures err { OnErr result (IsLater core.old core.new) }
+    // At the horizon it waits.
+    ensures waits { IfOk result (λ reply. reply ≡ None → WaitsFor core.new request) }
+    ensures err { OnErr result (IsHeldUp core.old request core.new) }
 {
     let mut asked = request;
     loop {

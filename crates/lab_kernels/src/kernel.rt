@@ -4,8 +4,7 @@ ghost use Rattle.std.specs.Prelude.{◌≡◌, IfOk, None, OnErr};
 ghost use Rattle.kern_syntax.specs.TreeOf.{tree_of};
 ghost use Rattle.rtio_core.specs.Entries.{open_session};
 ghost use Rattle.kernel_session.specs.Meant.{TakesArguments};
-ghost use Rattle.lab_kernels.specs.Growing.{GrowsBy};
-ghost use Rattle.lab_kernels.specs.Meanings.{RunsKernel};
+ghost use Rattle.lab_kernels.specs.Meanings.{LeavesKernel, RunsKernel};
 
 use crate::running::run_function;
 use code_replies::runs_with_fitting_replies_are_meant;
@@ -29,8 +28,9 @@ pub fn run_kernel(
     // The history has grown by one session of the chair, whose requests, outcome and cursor are those of the kernel's meaning under
     // its replies; each request was asked at its top; and the result is that of the session.
     ensures kernel { IfOk result (λ result. RunsKernel (tree_of compiled.now.0) compiled.now.1 units who of core.old core.new result) }
-    // Without memory the history has grown by entries of the chair alone.
-    ensures left { OnErr result (GrowsBy who core.old core.new) }
+    // Without memory no session was started, or just this one, and it has no end. It has the first requests of the kernel's meaning
+    // with their replies, each asked at its top.
+    ensures left { OnErr result (LeavesKernel (tree_of compiled.now.0) units who of core.old core.new) }
 {
     runs_with_fitting_replies_are_meant();
     run_function(alloc, core, who, compiled.code(), of, units)

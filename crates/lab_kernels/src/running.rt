@@ -5,9 +5,9 @@ ghost use Rattle.rtio_core.specs.Calls.{started};
 ghost use Rattle.rtio_core.specs.Entries.{last_cursor, open_session};
 ghost use Rattle.core_cpu.specs.Standing.{HasEntry};
 ghost use Rattle.core_session.specs.Standing.{Session};
-ghost use Rattle.lab_kernels.specs.Growing.{GrowsBy};
+ghost use Rattle.lab_kernels.specs.CutShort.{LeavesCode};
 ghost use Rattle.lab_kernels.specs.Runs.{HasRun};
-ghost use Rattle.lab_kernels.specs.Standing.{Begins, HasBegun, HasPlayed};
+ghost use Rattle.lab_kernels.specs.Standing.{Begins, HasBegun, HasLeft, HasPlayed};
 
 use crate::answering::go_on;
 use core_cpu::Cpu;
@@ -34,8 +34,9 @@ pub fn run_function(
     // The history has grown by one session of the chair, whose requests, outcome and cursor are those of the run of the code under
     // its replies; each request was asked at its top; and the result is that of the session.
     ensures ran { IfOk result (λ result. HasRun code.now units who of core.old core.new result) }
-    // Without memory the history has grown by entries of the chair alone.
-    ensures left { OnErr result (GrowsBy who core.old core.new) }
+    // Without memory no session was started, or just this one, and it has no end. It has the first requests of the run of the code
+    // with their replies, each asked at its top.
+    ensures left { OnErr result (LeavesCode code.now units who of core.old core.new) }
 {
     let function = of.function;
     let args = of.args.copy(alloc)?;
@@ -76,7 +77,7 @@ fn play(
     requires { HasBegun who core.old cpu.old sets.old.items }
     ensures played { IfOk result (λ how. (s : Session) → Begins who s core.old cpu.old sets.old.items
         → HasPlayed who s core.new cpu.new sets.new.items how) }
-    ensures left { OnErr result (GrowsBy who core.old core.new) }
+    ensures left { OnErr result ((s : Session) → Begins who s core.old cpu.old sets.old.items → HasLeft who s core.new) }
 {
     loop {
         if let Some(outcome) = go_on(alloc, core, who, cpu, sets)? {

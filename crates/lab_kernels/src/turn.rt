@@ -1,10 +1,11 @@
 // One holding of a core.
 
-ghost use Rattle.std.specs.Prelude.{◌≡◌, IfOk, IsSome, IsTrue, OnErr};
+ghost use Rattle.std.specs.Prelude.{◌≡◌, IfOk, IsSome, IsTrue, OnErr, Some};
 ghost use Rattle.rtio_types.specs.Requests.{is_well_formed};
 ghost use Rattle.rtio_core.specs.Calls.{NoOtherWaits};
 ghost use Rattle.rtio_core.specs.Lawful.{IsOpenFor};
 ghost use Rattle.rtio_core.specs.Reply.{reply_to};
+ghost use Rattle.rtio_core.specs.Top.{top};
 ghost use Rattle.lab_kernels.specs.Turns.{IsTurn, ticked_on};
 
 use rtio_core::{Ask, Core, what_is_decided_stays_decided};
@@ -40,7 +41,8 @@ pub fn ask_stopped(
     // at the horizon, where the counter is then.
     ensures turn { IfOk result (λ turn. IsTurn core.old who request turn core.new) }
     ensures err { OnErr result (core.new ≡ ticked_on core.old) }
-    // Want of memory comes only where there would have been a reply.
+    // Want of memory comes only where there would have been a reply, as late as it may be.
+    ensures at_top { OnErr result ((ticked_on core.old).counter ≡ top core.old.config core.old.history (Some request)) }
     ensures memory { OnErr result (NoOtherWaits core.old.waiting request × IsSome (reply_to core.old.config core.old.history request (ticked_on core.old).counter)) }
 {
     what_is_decided_stays_decided();

@@ -2,7 +2,7 @@
 use Rattle.std.proofs.Common.{◌≡◌, ◌≢◌, ℕ, zero, suc, List, [], ◌∷◌, ◌++◌, refl, sym, ap, subst, ◌∙◌, append_assoc, append-nil, arith, inl, inr}
 use Rattle.std.specs.Prelude.{◌⊎◌, Some, None, map, slice_get, slice_set}
 use Rattle.std.specs.List.{All}
-use Rattle.std.proofs.lemmas.List.{length-set, map-append}
+use Rattle.std.proofs.lemmas.List.{map-append}
 use Rattle.std.proofs.lemmas.List.Elements.{All-append, All-cons, All-nil, filter_map-append}
 use Rattle.std.proofs.lemmas.List.Sums.{fold-append}
 use Rattle.rtio_core.specs.declared.data.Act.TheVariants.{End, Start}
@@ -19,7 +19,6 @@ use Rattle.sched_core.specs.Calls.{entry_of, jumps}
 use Rattle.desk_rule.specs.Histories.{acts_of}
 use Rattle.desk_rule.proofs.Prefixes.{acts_of-append}
 use Rattle.core_session.specs.Sessions.{Answered, asked_entry, entry_of as core_entry_of}
-use Rattle.lab_kernels.specs.Growing.{GrowsBy}
 use Rattle.lab_kernels.specs.Kernels.{ArePrompt, KernelRun, entries_until_end, session_entries}
 use Rattle.lab_kernels.specs.Runs.{AddsKernel}
 use Rattle.lab_ties.proofs.Lasting.{ties-last}
@@ -27,8 +26,7 @@ use Rattle.lab_ties.proofs.Tied.{ties-grow}
 use Rattle.lab_ties.specs.Acts.{core_acts, sched_acts}
 use Rattle.lab_ties.specs.Steps.{IsKernelStep}
 use Rattle.lab_ties.specs.Ties.{AreTied, report_of, report_on, reports_of}
-use Rattle.stage_work.specs.Serving.{AreLeftCores, AreServedCores, IsLeftCore, IsServedCore}
-use Rattle.stage_work.specs.Stepping.{ChangesAt}
+use Rattle.stage_work.specs.Serving.{AreServedCores, IsServedCore}
 
 -- ---- entries of the scheduler that report no kernel step of the pipeline
 
@@ -120,14 +118,6 @@ session-own chair before k =
     (All-cons (IsOf chair) first (map (asked_entry chair) k.asked) refl (asked-own chair k.asked))
     (All-cons (IsOf chair) last [] refl (All-nil (IsOf chair)))
 
-pub kernel-grows : (chair : ℕ) (of : StartOf) (old new : CoreState) (k : KernelRun) → AddsKernel chair of old new k → GrowsBy chair old new
-kernel-grows chair of old new k adds = record {
-  config = adds.config;
-  entries = session_entries chair old.history k;
-  history = adds.history;
-  own = session-own chair old.history k;
-}
-
 tied-kernel : (session : Session) (pipeline : ℕ) (config : Config) (sched : List SchedEntry) (a : SchedAct) (history now : List Entry) (k : KernelRun)
     → reports_of pipeline (a ∷ []) ≡ report_on k ∷ [] → now ≡ history ++ session_entries 0 history k
     → IsKernelStep session config (sched ++ entry_of 0 a ∷ []) pipeline 0 now k
@@ -179,41 +169,3 @@ set-at (y ∷ ys) (suc i) (suc j) a x e = on (set-at ys i j a x e)
         → ((suc j ≡ suc i) × (x ≡ a)) ⊎ ((suc j ≢ suc i) × (slice_get ys j ≡ Some x))
     on (inl here) = inl (ap suc here.0, here.1)
     on (inr there) = inr ((λ same. there.0 (omega (arith, same))), there.1)
-
-pub left-of : (session : Session) (sched : List SchedEntry) (pipeline : ℕ) (core : CoreState) → IsServedCore session sched pipeline core
-    → IsLeftCore session pipeline core
-left-of session sched pipeline core served = record { config = served.config; alone = served.alone }
-
-pub cores-left : (session : Session) (sched : List SchedEntry) (cores : List CoreState) → AreServedCores session sched cores → AreLeftCores session cores
-cores-left session sched cores served = record {
-  count = served.count;
-  each = λ pipeline core at. left-of session sched pipeline core (served.each pipeline core at);
-}
-
--- where one has grown by entries of chair 0
-pub cores-left-at : (session : Session) (sched : List SchedEntry) (pipeline : ℕ) (cores now : List CoreState)
-    → AreServedCores session sched cores → ChangesAt pipeline (GrowsBy 0) cores now → AreLeftCores session now
-cores-left-at session sched pipeline cores now served changes =
-    let N : List CoreState → Type 0 = λ cs. AreLeftCores session cs in
-    subst N (sym changes.leaves) (record {
-      count = length-set cores pipeline changes.new ∙ served.count;
-      each = λ other core at. which other core (set-at cores pipeline other changes.new core at);
-    })
-  where
-    grown : IsLeftCore session pipeline changes.new
-    grown =
-        let was = served.each pipeline changes.old changes.found in
-        let A : List Entry → Type 0 = λ h. All (IsOf 0) h in
-        record {
-          config = was.config ∙ ap Some (sym changes.so.config);
-          alone = subst A (sym changes.so.history) (All-append (IsOf 0) changes.old.history changes.so.entries was.alone changes.so.own);
-        }
-
-    which : (other : ℕ) (core : CoreState)
-        → ((other ≡ pipeline) × (core ≡ changes.new)) ⊎ ((other ≢ pipeline) × (slice_get cores other ≡ Some core))
-        → IsLeftCore session other core
-    which other core (inl here) =
-        let P : ℕ → Type 0 = λ n. IsLeftCore session n core in
-        let C : CoreState → Type 0 = λ c. IsLeftCore session pipeline c in
-        subst P (sym here.0) (subst C (sym here.1) grown)
-    which other core (inr there) = left-of session sched other core (served.each other core there.1)

@@ -1,8 +1,7 @@
 -- What is known of a step in flight, and of what was done for it.
-use Rattle.std.proofs.Common.{◌≡◌, ℕ, zero, suc, ◌<◌, List, [], ◌∷◌, length, refl, sym, ap, subst, ◌∙◌, append-nil, arith}
+use Rattle.std.proofs.Common.{◌≡◌, ℕ, zero, suc, ◌<◌, List, [], ◌∷◌, length, inl, inr, refl, sym, ap, subst, ◌∙◌, arith}
 use Rattle.std.specs.Prelude.{ℤ, Option, Some, None, Result, Ok, Err, OnErr, slice_get}
 use Rattle.std.specs.List.{AllByRecursion}
-use Rattle.std.proofs.lemmas.List.Elements.{All-nil}
 use Rattle.rtio_core.specs.Core.{CoreState}
 use Rattle.exp_runs.specs.declared.run.Run.{Run}
 use Rattle.exp_model.specs.declared.session.Session.{Session}
@@ -12,17 +11,15 @@ use Rattle.sched_state.specs.declared.entry.KernelResult.{KernelResult}
 use Rattle.sched_state.specs.Lawful.{HasResult, found_step}
 use Rattle.sched_core.specs.Calls.{RanFits}
 use Rattle.sched_core.specs.Scheds.{HasCall, IsSched, SchedValue}
-use Rattle.lab_kernels.specs.Growing.{GrowsBy}
-use Rattle.lab_kernels.specs.Meanings.{RunsKernel}
+use Rattle.lab_kernels.specs.Meanings.{LeavesKernel, RunsKernel}
 use Rattle.lab_kits.specs.declared.kit.Kit.{Kit}
 use Rattle.lab_kits.specs.Calls.{HasCallOf, HasFunction}
 use Rattle.lab_kits.specs.Kits.{KitCall, program_in}
 use Rattle.lab_ties.specs.Steps.{start_of}
-use Rattle.stage_work.proofs.Cores.{kernel-grows}
 use Rattle.stage_work.proofs.Own.{run-there}
 use Rattle.stage_work.specs.declared.stepping.StepAt.{StepAt}
 use Rattle.stage_work.specs.Jobs.{HasTaken}
-use Rattle.stage_work.specs.Stepping.{ChangesAt, HasDone, step_job}
+use Rattle.stage_work.specs.Stepping.{ChangesAt, HasDone, IsCutOff, IsUnreported, step_job}
 
 pub on-err : {X E : Type 0} (r : Result X E) (P : Type 0) → P → OnErr r P
 on-err (Ok x) P p = tt
@@ -81,36 +78,25 @@ ran-fits who units sched at step kit old new ran taken done = λ other found.
     let R : HostStep → Type 0 = λ s. HasResult (Some s) ran in
     subst R one (done-has-result units kit at step old new ran done)
 
-grows-same : (old new : CoreState) → new ≡ old → GrowsBy 0 old new
-grows-same old new same = subst (GrowsBy 0 old) (sym same) (record { config = refl; entries = []; history = sym (append-nil old.history); own = All-nil _ })
-
--- whatever was done, the core has grown by entries of chair 0
-done-grows : (units : ℕ) (kit : Kit) (at : StepAt) (step : HostStep) (old new : CoreState) (ran : Option KernelResult)
-    → HasDone units kit at step old new ran → GrowsBy 0 old new
-done-grows units kit at (Kernel name args) old new None done = absurd done
-done-grows units kit at (Kernel name args) old new (Some result) (function, f, r) = kernel-grows 0 _ old new r.ran.k r.ran.adds
-done-grows units kit at Pause old new None done = grows-same old new done
-done-grows units kit at Pause old new (Some result) done = absurd done
-done-grows units kit at CheckTermination old new None done = grows-same old new done
-done-grows units kit at CheckTermination old new (Some result) done = absurd done
-done-grows units kit at (Set name value broadcast persist archive) old new None done = grows-same old new done
-done-grows units kit at (Set name value broadcast persist archive) old new (Some result) done = absurd done
-done-grows units kit at (Append name value) old new None done = grows-same old new done
-done-grows units kit at (Append name value) old new (Some result) done = absurd done
-done-grows units kit at (Sum name into) old new None done = grows-same old new done
-done-grows units kit at (Sum name into) old new (Some result) done = absurd done
-done-grows units kit at (Submit asked) old new None done = grows-same old new done
-done-grows units kit at (Submit asked) old new (Some result) done = absurd done
-
-pub changes-grow : (units : ℕ) (kit : Kit) (at : StepAt) (step : HostStep) (cores now : List CoreState) (ran : Option KernelResult)
-    → ChangesAt at.pipeline (λ old new. HasDone units kit at step old new ran) cores now → ChangesAt at.pipeline (GrowsBy 0) cores now
-changes-grow units kit at step cores now ran changes = record {
+-- a change of one core says less, too
+changes-weaker : {P Q : CoreState → CoreState → Type 0} (pipeline : ℕ) (cores now : List CoreState) → ((old new : CoreState) → P old new → Q old new)
+    → ChangesAt pipeline P cores now → ChangesAt pipeline Q cores now
+changes-weaker pipeline cores now less changes = record {
   old = changes.old;
   new = changes.new;
   found = changes.found;
   leaves = changes.leaves;
-  so = done-grows units kit at step changes.old changes.new ran changes.so;
+  so = less changes.old changes.new changes.so;
 }
+
+-- a step that was cut off, and one that was done, are not reported
+pub cut-unreported : (units : ℕ) (kit : Kit) (at : StepAt) (step : HostStep) (cores now : List CoreState)
+    → ChangesAt at.pipeline (IsCutOff units kit at step) cores now → ChangesAt at.pipeline (IsUnreported units kit at step) cores now
+cut-unreported units kit at step cores now = changes-weaker at.pipeline cores now (λ old new cut. inl cut)
+
+pub done-unreported : (units : ℕ) (kit : Kit) (at : StepAt) (step : HostStep) (cores now : List CoreState) (ran : Option KernelResult)
+    → ChangesAt at.pipeline (λ old new. HasDone units kit at step old new ran) cores now → ChangesAt at.pipeline (IsUnreported units kit at step) cores now
+done-unreported units kit at step cores now ran = changes-weaker at.pipeline cores now (λ old new done. inr (ran, done))
 
 -- ---- doing it
 
@@ -130,6 +116,16 @@ kernel-done units kit at step name read args function old new result is same f r
     let D : HostStep → Type 0 = λ s. HasDone units kit at s old new (Some result) in
     let F : List ℕ → Type 0 = λ n. HasFunction (program_in kit) n args function in
     subst D (sym is) (function, subst F same f, runs)
+
+pub kernel-cut : (units : ℕ) (kit : Kit) (at : StepAt) (step : HostStep) (name read : List ℕ) (args : List ℤ)
+    → (function : ℕ) (old new : CoreState)
+    → step ≡ Kernel name args → read ≡ name → HasFunction (program_in kit) read args function
+    → LeavesKernel (program_in kit) units 0 (start_of kit function args at.rid at.pos) old new
+    → IsCutOff units kit at step old new
+kernel-cut units kit at step name read args function old new is same f leaves =
+    let D : HostStep → Type 0 = λ s. IsCutOff units kit at s old new in
+    let F : List ℕ → Type 0 = λ n. HasFunction (program_in kit) n args function in
+    subst D (sym is) (function, subst F same f, leaves)
 
 -- nothing is done on the core for a step that is no kernel's
 pub other-done : (units : ℕ) (kit : Kit) (at : StepAt) (step : HostStep) (core : CoreState)

@@ -1,11 +1,10 @@
 -- The laboratory of one worker after a job that was taken, done and reported.
-use Rattle.std.proofs.Common.{◌≡◌, ℕ, ◌<◌, List, [], ◌∷◌, ◌++◌, refl, sym, subst, ◌∙◌}
-use Rattle.std.specs.Prelude.{Some, None, IsTrue, OnOk, Result}
+use Rattle.std.proofs.Common.{◌≡◌, ℕ, ◌<◌, List, [], ◌∷◌, ◌++◌, inl, inr, refl, sym, subst, ◌∙◌}
+use Rattle.std.specs.Prelude.{Some, None, IsTrue, OnErr, OnOk, Result}
 use Rattle.std.proofs.lemmas.Result.{on_ok_weaker}
 use Rattle.rtio_core.specs.Core.{CoreState}
 use Rattle.exp_model.specs.declared.session.Session.{Session}
 use Rattle.exp_model.specs.declared.step.HostStep.{HostStep}
-use Rattle.sched_state.specs.declared.entry.Flight.{Flight}
 use Rattle.sched_state.specs.declared.entry.JobName.{JobName}
 use Rattle.sched_state.specs.declared.entry.JobName.TheVariants as name
 use Rattle.sched_state.specs.declared.entry.SchedAct.{SchedAct}
@@ -13,6 +12,7 @@ use Rattle.sched_state.specs.declared.entry.SchedAct.TheVariants as act
 use Rattle.sched_state.specs.Picks.{is_over}
 use Rattle.sched_laws.specs.Workers.{reported}
 use Rattle.sched_core.specs.declared.answer.Job.{Job}
+use Rattle.sched_core.specs.declared.answer.Job.TheVariants as job
 use Rattle.sched_core.specs.declared.answer.Next.{Next}
 use Rattle.sched_core.specs.declared.answer.Next.TheVariants as next
 use Rattle.sched_core.specs.Calls.{AnswersNext, entry_of, jumped, jumps, name_of, with_entry}
@@ -20,12 +20,12 @@ use Rattle.sched_core.specs.Scheds.{IsSched, SchedValue, sched_state}
 use Rattle.lab_kits.specs.declared.kit.Kit.{Kit}
 use Rattle.lab_kits.specs.Kits.{KitCall, KitText, kit_source}
 use Rattle.lab_ties.specs.Ties.{reports_of}
-use Rattle.stage_work.proofs.Cores.{cores-jumped, cores-left, cores-over}
+use Rattle.stage_work.proofs.Cores.{cores-jumped, cores-over}
 use Rattle.stage_work.proofs.Scheds.{fewer-left, has-taken, jumped-served, taken-served}
 use Rattle.stage_work.proofs.Steps.{told}
 use Rattle.stage_work.specs.declared.stepping.StepAt.{StepAt}
 use Rattle.stage_work.specs.Jobs.{HasReported, HasTaken, in_flight}
-use Rattle.stage_work.specs.Serving.{AreLeftCores, AreServedCores, IsLeft, IsServed, IsServedSched, jobs_left_at}
+use Rattle.stage_work.specs.Serving.{AreServedCores, IsLeft, IsServed, IsServedSched, LeavesCores, jobs_left_at}
 use Rattle.stage_work.specs.Stepping.{HasStepped, step_job}
 
 -- ---- a report
@@ -123,14 +123,34 @@ module _ (session : Session) (old : SchedValue) (cores : List CoreState) (served
 
 -- ---- what want of memory leaves
 
-pub left-after : (session : Session) (flying : List Flight) (sched now : SchedValue) (cores : List CoreState)
-    → IsServedSched session flying sched → now ≡ sched
-    → AreLeftCores session cores → IsLeft session now cores
-left-after session flying sched now cores served same left =
-    let L : SchedValue → Type 0 = λ v. IsLeft session v cores in
-    subst L (sym same) (record { session_is = served.session_is; alone = served.alone; each_core = left })
-
+-- nothing has changed
 pub left-before : (session : Session) (sched now : SchedValue) (cores : List CoreState) → IsServed session [] sched cores → now ≡ sched
     → IsLeft session now cores
 left-before session sched now cores served same =
-    left-after session [] sched now cores served.scheduler same (cores-left session sched.history cores served.each_core)
+    let S : SchedValue → Type 0 = λ v. IsServed session [] v cores in
+    inl (subst S (sym same) served)
+
+-- or a job that was taken is not reported
+pub left-after : (session : Session) (taken : Job Kit) (sched now : SchedValue) (cores left : List CoreState)
+    → IsServedSched session (in_flight 0 (name_of taken) ∷ []) sched → HasTaken 0 taken sched → AreServedCores session sched.history cores
+    → now ≡ sched → LeavesCores session taken cores left → IsLeft session now left
+left-after session taken sched now cores left served has each same leaves =
+    let L : SchedValue → Type 0 = λ v. IsLeft session v left in
+    subst L (sym same) (inr (taken, record { scheduler = served; has = has; before = cores; served = each; leaves = leaves }))
+
+-- it has left the cores alone, unless it is a step
+pub cores-alone : (session : Session) (taken other : Job Kit) (cores : List CoreState) → taken ≡ other → IsNoStep (name_of other) → LeavesCores session taken cores cores
+cores-alone session taken other cores is free =
+    let L : Job Kit → Type 0 = λ j. LeavesCores session j cores cores in
+    subst L (sym is) (alone other free)
+  where
+    alone : (j : Job Kit) → IsNoStep (name_of j) → LeavesCores session j cores cores
+    alone (job.Prepare rid source) free = refl
+    alone (job.Step rid pos pipeline step kit) free = absurd free
+    alone (job.Analyze rid) free = refl
+
+pub step-leaves : {E : Type 0} (r : Result (Unit {0}) E) (session : Session) (taken : Job Kit) (rid pos pipeline : ℕ) (step : HostStep) (kit : Kit) (cores now : List CoreState)
+    → taken ≡ job.Step rid pos pipeline step kit
+    → OnErr r (LeavesCores session (job.Step rid pos pipeline step kit) cores now) → OnErr r (LeavesCores session taken cores now)
+step-leaves r session taken rid pos pipeline step kit cores now is leaves =
+    let L : Job Kit → Type 0 = λ j. OnErr r (LeavesCores session j cores now) in subst L (sym is) leaves

@@ -1,5 +1,5 @@
 -- What holds between two jobs of one worker, who has the scheduler and the cores to itself.
-use Rattle.std.specs.Prelude.{◌≡◌, ℕ, List, [], length, slice_get, Some, None}
+use Rattle.std.specs.Prelude.{◌≡◌, ◌⊎◌, ℕ, List, [], ◌∷◌, length, slice_get, Some, None}
 use Rattle.std.specs.List.{All}
 use Rattle.rtio_core.specs.declared.data.Entry.{Entry}
 use Rattle.rtio_core.specs.Core.{CoreState}
@@ -9,12 +9,18 @@ use Rattle.sched_state.specs.declared.entry.Flight.{Flight}
 use Rattle.sched_state.specs.declared.entry.SchedEntry.{SchedEntry}
 use Rattle.sched_state.specs.Lawful.{halted_by}
 use Rattle.sched_laws.specs.Left.{jobs_left}
+use Rattle.sched_core.specs.declared.answer.Job.{Job}
+use Rattle.sched_core.specs.declared.answer.Job.TheVariants as job
+use Rattle.sched_core.specs.Calls.{name_of}
 use Rattle.sched_core.specs.Scheds.{SchedValue, sched_state}
 use Rattle.lab_kernels.specs.Kernels.{ArePrompt}
+use Rattle.lab_kits.specs.declared.kit.Kit.{Kit}
 use Rattle.lab_ties.specs.Acts.{core_acts, sched_acts}
 use Rattle.lab_ties.specs.Judged.{IsJudged}
 use Rattle.lab_ties.specs.Settings.{config_at}
 use Rattle.lab_ties.specs.Ties.{AreTied}
+use Rattle.stage_work.specs.Jobs.{HasTaken, in_flight}
+use Rattle.stage_work.specs.Stepping.{ChangesAt, IsUnreported}
 
 -- The scheduler has this session, and these jobs in flight. It wasn't halted; all entries are of chair 0; and each source was
 -- judged rightly
@@ -47,21 +53,23 @@ pub record IsServed (session : Session) (flying : List Flight) (sched : SchedVal
   pub scheduler : IsServedSched session flying sched
   pub each_core : AreServedCores session sched.history cores
 
--- what want of memory leaves of a core: the pipeline's settings, and entries of chair 0
-pub record IsLeftCore (session : Session) (pipeline : ℕ) (core : CoreState) : Type 0 where
-  pub config : config_at session pipeline ≡ Some core.config
-  pub alone : All (λ (entry : Entry). entry.chair ≡ 0) core.history
+-- a job that want of memory stopped has left the cores as they were, but that of the pipeline whose step it does
+abbrev pub LeavesCores : Session → Job Kit → (cores now : List CoreState) → Type 0
+LeavesCores session (job.Step rid pos pipeline step kit) cores now =
+    ChangesAt pipeline (IsUnreported session.budget kit (record { rid = rid; pos = pos; pipeline = pipeline }) step) cores now
+LeavesCores session other cores now = now ≡ cores
 
--- of the cores
-pub record AreLeftCores (session : Session) (cores : List CoreState) : Type 0 where
-  pub count : length cores ≡ length session.pipelines
-  pub each : (pipeline : ℕ) (core : CoreState) → slice_get cores pipeline ≡ Some core → IsLeftCore session pipeline core
+-- this job is in flight, and all else is as it was before
+pub record IsLeftWith (session : Session) (taken : Job Kit) (sched : SchedValue) (cores : List CoreState) : Type 0 where
+  pub scheduler : IsServedSched session (in_flight 0 (name_of taken) ∷ []) sched
+  pub has : HasTaken 0 taken sched
+  pub before : List CoreState
+  pub served : AreServedCores session sched.history before
+  pub leaves : LeavesCores session taken before cores
 
--- and of the scheduler: the session, and entries of chair 0
-pub record IsLeft (session : Session) (sched : SchedValue) (cores : List CoreState) : Type 0 where
-  pub session_is : sched.session ≡ session
-  pub alone : All (λ (entry : SchedEntry). entry.chair ≡ 0) sched.history
-  pub each_core : AreLeftCores session cores
+-- what want of memory leaves: all as between two jobs, or one job that was taken and isn't reported
+abbrev pub IsLeft : Session → SchedValue → List CoreState → Type 0
+IsLeft session sched cores = IsServed session [] sched cores ⊎ ((taken : Job Kit) × IsLeftWith session taken sched cores)
 
 -- how many jobs may still be reported
 abbrev pub jobs_left_at : SchedValue → ℕ

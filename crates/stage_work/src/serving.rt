@@ -6,7 +6,7 @@ ghost use Rattle.sched_core.specs.Calls.{name_of};
 ghost use Rattle.sched_core.specs.Scheds.{new_sched, sched_state};
 ghost use Rattle.lab_ties.specs.Settings.{new_cores};
 ghost use Rattle.stage_work.specs.Jobs.{HasReported, HasTaken};
-ghost use Rattle.stage_work.specs.Serving.{AreLeftCores, AreServedCores, IsLeft, IsServed, jobs_left_at};
+ghost use Rattle.stage_work.specs.Serving.{AreServedCores, IsLeft, IsServed, LeavesCores, jobs_left_at};
 
 use crate::preparing::do_preparation;
 use crate::reporting::report_analyzed;
@@ -36,7 +36,8 @@ pub fn serve<G: Gate>(
     ensures served { OnOk result (IsServed session.now [] sched.new cores.new) }
     // No arrival is left, and every run has ended.
     ensures over { OnOk result (IsTrue (is_over (sched_state sched.new))) }
-    // Without memory the scheduler and the cores are of the session still, and have entries of chair 0 alone.
+    // Without memory nothing is in flight and all is so still, or one job is. Then the cores are so too, but where it is a kernel's
+    // step its core may have its session besides: up to some request, or the whole.
     ensures left { OnErr result (IsLeft session.now sched.new cores.new) }
 {
     loop {
@@ -89,7 +90,7 @@ fn do_job<G: Gate>(
     ensures reports { OnOk result (HasReported 0 (name_of job) sched.old sched.new) }
     ensures cores { OnOk result (AreServedCores session.now sched.new.history cores.new) }
     ensures err { OnErr result (sched.new ≡ sched.old) }
-    ensures left { OnErr result (AreLeftCores session.now cores.new) }
+    ensures left { OnErr result (LeavesCores session.now job cores.old cores.new) }
 {
     match job {
         Job::Prepare { rid, .. } => do_preparation(alloc, sched, session, gate, rid),

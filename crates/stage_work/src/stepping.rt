@@ -4,11 +4,10 @@ ghost use Rattle.std.specs.Prelude.{◌≡◌, ◌<◌, length, slice_get, IfOk,
 ghost use Rattle.rtio_core.specs.Core.{CoreState};
 ghost use Rattle.rtio_core.specs.Entries.{open_session};
 ghost use Rattle.sched_core.specs.Scheds.{HasCall};
-ghost use Rattle.lab_kernels.specs.Growing.{GrowsBy};
 ghost use Rattle.lab_kits.specs.Kits.{KitCall};
 ghost use Rattle.stage_work.specs.Jobs.{HasTaken};
-ghost use Rattle.stage_work.specs.Serving.{AreLeftCores, AreServedCores};
-ghost use Rattle.stage_work.specs.Stepping.{ChangesAt, HasDone, HasStepped, step_job};
+ghost use Rattle.stage_work.specs.Serving.{AreServedCores};
+ghost use Rattle.stage_work.specs.Stepping.{ChangesAt, HasDone, HasStepped, IsCutOff, IsUnreported, step_job};
 
 use crate::reporting::report_step;
 use exp_model::{HostStep, Session};
@@ -47,7 +46,7 @@ pub fn do_step<G: Gate>(
     ensures told { OnOk result (HasStepped 0 at sched.old sched.new) }
     ensures cores { OnOk result (AreServedCores session.now sched.new.history cores.new) }
     ensures err { OnErr result (sched.new ≡ sched.old) }
-    ensures left { OnErr result (AreLeftCores session.now cores.new) }
+    ensures left { OnErr result (ChangesAt at.pipeline (IsUnreported session.now.budget kit at step) cores.old cores.new) }
 {
     let _known = sched.history();
     let _does = kit.compiled.code();
@@ -69,7 +68,7 @@ fn run_step_at<G: Gate>(
     requires there { at.pipeline < length cores.old }
     requires free { (core : CoreState) → slice_get cores.old at.pipeline ≡ Some core → open_session core.history ≡ None }
     ensures done { IfOk result (λ ran. ChangesAt at.pipeline (λ old new. HasDone session.now.budget kit.now at step old new ran) cores.old cores.new) }
-    ensures left { OnErr result (ChangesAt at.pipeline (GrowsBy 0) cores.old cores.new) }
+    ensures left { OnErr result (ChangesAt at.pipeline (IsCutOff session.now.budget kit.now at step) cores.old cores.new) }
 {
     run_step(
         alloc,
@@ -95,7 +94,7 @@ fn run_step<G: Gate>(
     requires call { HasCall KitCall kit.now step }
     requires free { open_session core.old.history ≡ None }
     ensures done { IfOk result (λ ran. HasDone session.now.budget kit.now at step core.old core.new ran) }
-    ensures left { OnErr result (GrowsBy 0 core.old core.new) }
+    ensures left { OnErr result (IsCutOff session.now.budget kit.now at step core.old core.new) }
 {
     match step {
         HostStep::Kernel { name, args } => {

@@ -1,7 +1,7 @@
 use Rattle.std.proofs.Common.{subst}
 use Rattle.std.specs.Prelude.{Option}
 use Rattle.rtio_types.specs.declared.outcome.Outcome.{Outcome}
-use Rattle.lab_kernels.proofs.Growing.{on-err}
+use Rattle.lab_kernels.proofs.Later.{on-err}
 use Rattle.lab_kernels.proofs.Playing.{Leads, so-far-first, so-far-last, so-far-left, so-far-nearer, so-far-next, so-far-open}
 use Rattle.lab_kernels.proofs.running.play.Goals as goal
 

@@ -1,4 +1,4 @@
-use Rattle.std.proofs.Common.{rules, sym, ap, subst}
+use Rattle.std.proofs.Common.{rules, inr, sym, ap, subst}
 use Rattle.std.specs.Prelude.{List}
 use Rattle.std.specs.Int.{w64}
 use Rattle.std.specs.Int.RustNames.{FitsSigned}
@@ -6,8 +6,8 @@ use Rattle.std.proofs.lemmas.Int.{to_z-of_z}
 use Rattle.sched_state.specs.declared.entry.DataSet.{DataSet}
 use Rattle.core_cpu.specs.Moments.{Moment}
 use Rattle.lab_kernels.specs.Runs.{HasRun}
-use Rattle.lab_kernels.proofs.Growing.{grows-on, grows-started, on-err}
-use Rattle.lab_kernels.proofs.Whole.{IsBooted, begins, has-run, is-booted, session_of}
+use Rattle.lab_kernels.proofs.Later.{on-err}
+use Rattle.lab_kernels.proofs.Whole.{IsBooted, begins, cut-at-start, cut-later, has-run, is-booted, session_of}
 use Rattle.lab_kernels.proofs.running.run_function.Goals as goal
 
 pub play-requires : goal.play-requires
@@ -38,11 +38,20 @@ returns-clause-ran c =
 
 pub returns-in_err-cpu-clause-left : goal.returns-in_err-cpu-clause-left
 returns-in_err-cpu-clause-left c =
-    on-err _ _ (grows-started c.args.who c.args.core.now c.start.new.core c.args.of _ c.in_ok-cursor.ensures.ok)
+    let fits : FitsSigned w64 c.in_ok-cursor.cursor = search rules in
+    on-err _ _
+    (inr (cut-at-start c.args.who c.args.code.now c.args.of c.args.units c.args.core.now c.start.new.core c.in_ok-cursor.ensures.ok
+    (subst (FitsSigned w64) c.in_ok-cursor.ensures.cursor fits)))
 
 pub returns-in_err-outcome-clause-left : goal.returns-in_err-outcome-clause-left
 returns-in_err-outcome-clause-left c =
+    let fits : FitsSigned w64 c.in_ok-cursor.cursor = search rules in
+    let same = to_z-of_z w64 c.in_ok-cursor.cursor fits in
+    let booted : IsBooted c.args.code.now c.args.of c.args.units c.args.core.now c.in_ok-cpu.cpu =
+    is-booted c.args.code.now c.args.of c.args.units c.args.core.now c.in_ok-cpu.cpu _ _ _ _ c.in_ok-cpu.ensures.code c.in_ok-cpu.ensures.begins c.in_ok-cpu.ensures.phase
+    (ap (λ (m : Moment). m.machine.units) (c.in_ok-cpu.ensures.first c.requires.entry.entry (search rules)))
+    (search rules) (search rules) (cc (same, c.in_ok-cursor.ensures.cursor)) (search rules) (subst (FitsSigned w64) (sym same) fits)
+    in
     on-err _ _
-    (grows-on c.args.who c.args.core.now c.start.new.core c.play.new.core
-    (grows-started c.args.who c.args.core.now c.start.new.core c.args.of _ c.in_ok-cursor.ensures.ok)
-    c.in_err-outcome.ensures.left)
+    (inr (cut-later c.args.who c.args.code.now c.args.of c.args.units c.args.core.now c.start.new.core c.in_ok-cursor.ensures.ok
+    c.in_ok-cpu.cpu c.new-sets.result.items c.play.new.core booted (search rules) c.in_err-outcome.ensures.left))

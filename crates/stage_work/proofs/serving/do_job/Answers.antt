@@ -6,9 +6,8 @@ use Rattle.sched_core.specs.Calls.{name_of}
 use Rattle.lab_kits.specs.declared.kit.Kit.{Kit}
 use Rattle.stage_work.specs.declared.stepping.StepAt.{StepAt}
 use Rattle.stage_work.specs.Jobs.{HasReported, HasTaken}
-use Rattle.stage_work.proofs.Cores.{cores-left}
 use Rattle.stage_work.proofs.Done.{on-err}
-use Rattle.stage_work.proofs.Jobs.{cores-reported, has-analyzed, step-reported}
+use Rattle.stage_work.proofs.Jobs.{cores-alone, cores-reported, has-analyzed, step-leaves, step-reported}
 use Rattle.stage_work.proofs.serving.do_job.Goals as goal
 
 pub do_preparation-requires-clause-flies : goal.do_preparation-requires-clause-flies
@@ -37,12 +36,17 @@ returns-in-Prepare-clause-cores g c =
 
 pub returns-in-Prepare-clause-left : goal.returns-in-Prepare-clause-left
 returns-in-Prepare-clause-left g c =
-    on-err c.do_preparation.result _ (cores-left c.args.session.now c.args.sched.now.history c.args.cores.now c.requires.cores)
+    on-err c.do_preparation.result _ (cores-alone c.args.session.now c.args.job _ c.args.cores.now c.in-Prepare.is tt)
 
 pub returns-in-Step-clause-reports : goal.returns-in-Step-clause-reports
 returns-in-Step-clause-reports g c =
     let at : StepAt = record { rid = c.in-Step.rid; pos = c.in-Step.pos; pipeline = c.in-Step.pipeline } in
     step-reported c.do_step.result c.args.job at c.in-Step.step c.in-Step.kit c.args.sched.now c.do_step.new.sched c.in-Step.is c.do_step.ensures.told
+
+pub returns-in-Step-clause-left : goal.returns-in-Step-clause-left
+returns-in-Step-clause-left g c =
+    step-leaves c.do_step.result c.args.session.now c.args.job c.in-Step.rid c.in-Step.pos c.in-Step.pipeline c.in-Step.step c.in-Step.kit
+    c.args.cores.now c.do_step.new.cores c.in-Step.is c.do_step.ensures.left
 
 pub returns-in-Analyze-clause-reports : goal.returns-in-Analyze-clause-reports
 returns-in-Analyze-clause-reports g c =
@@ -60,4 +64,4 @@ returns-in-Analyze-clause-cores g c =
 
 pub returns-in-Analyze-clause-left : goal.returns-in-Analyze-clause-left
 returns-in-Analyze-clause-left g c =
-    on-err c.report_analyzed.result _ (cores-left c.args.session.now c.args.sched.now.history c.args.cores.now c.requires.cores)
+    on-err c.report_analyzed.result _ (cores-alone c.args.session.now c.args.job _ c.args.cores.now c.in-Analyze.is tt)

@@ -25,8 +25,10 @@ do_job-requires-clause-cores g c =
 pub returns-in_err-do_job-in-Job-clause-left : goal.returns-in_err-do_job-in-Job-clause-left
 returns-in_err-do_job-in-Job-clause-left g c =
     on-err _ _
-    (left-after c.args.session.now _ c.next.new.self c.do_job.new.sched c.do_job.new.cores
+    (left-after c.args.session.now c.in-Job.job c.next.new.self c.do_job.new.sched c.args.cores.now c.do_job.new.cores
     (next-taken c.args.session.now c.args.sched.now c.args.cores.now c.requires c.next.new.self _ c.in_ok-next.ensures.ok c.in-Job.job c.in-Job.is)
+    (next-job c.args.session.now c.args.sched.now c.args.cores.now c.requires c.next.new.self _ c.in_ok-next.ensures.ok c.in-Job.job c.in-Job.is)
+    (next-cores c.args.session.now c.args.sched.now c.args.cores.now c.requires c.next.new.self _ c.in_ok-next.ensures.ok c.in-Job.job c.in-Job.is)
     c.in_err-do_job-in-Job.ensures.err c.in_err-do_job-in-Job.ensures.left)
 
 -- the job was taken, done and reported

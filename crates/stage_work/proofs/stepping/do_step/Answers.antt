@@ -4,8 +4,7 @@ use Rattle.code_law.specs.DoesAs.{DoesAs}
 use Rattle.lab_kits.specs.Kits.{program_in}
 use Rattle.sched_core.specs.Scheds.{SchedValue}
 use Rattle.stage_work.specs.Serving.{AreServedCores}
-use Rattle.stage_work.proofs.Cores.{cores-left-at}
-use Rattle.stage_work.proofs.Done.{changes-grow, has-call, has-core, on-err, ran-fits}
+use Rattle.stage_work.proofs.Done.{cut-unreported, done-unreported, has-call, has-core, on-err, ran-fits}
 use Rattle.stage_work.proofs.Steps.{cores-after-step}
 use Rattle.stage_work.proofs.stepping.do_step.Goals as goal
 
@@ -22,9 +21,7 @@ run_step_at-requires-clause-free g c = λ core at. (c.requires.cores.each c.args
 
 pub returns-in_err-ran-clause-left : goal.returns-in_err-ran-clause-left
 returns-in_err-ran-clause-left g c =
-    on-err _ _
-    (cores-left-at c.args.session.now c.args.sched.now.history c.args.at.pipeline c.args.cores.now c.run_step_at.new.cores
-    c.requires.cores c.in_err-ran.ensures.left)
+    on-err _ _ (cut-unreported _ c.args.kit c.args.at c.args.step c.args.cores.now c.run_step_at.new.cores c.in_err-ran.ensures.left)
 
 pub report_step-requires-clause-flies : goal.report_step-requires-clause-flies
 report_step-requires-clause-flies g c = c.requires.taken.flies
@@ -55,5 +52,4 @@ returns-clause-cores g c =
 pub returns-clause-left : goal.returns-clause-left
 returns-clause-left g c =
     on-err c.report_step.result _
-    (cores-left-at c.args.session.now c.args.sched.now.history c.args.at.pipeline c.args.cores.now c.run_step_at.new.cores c.requires.cores
-    (changes-grow _ c.args.kit c.args.at c.args.step c.args.cores.now c.run_step_at.new.cores c.in_ok-ran.ran c.in_ok-ran.ensures.done))
+    (done-unreported _ c.args.kit c.args.at c.args.step c.args.cores.now c.run_step_at.new.cores c.in_ok-ran.ran c.in_ok-ran.ensures.done)

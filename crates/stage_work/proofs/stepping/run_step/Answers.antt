@@ -1,5 +1,5 @@
 use Rattle.std.proofs.lemmas.Bool.{false≢true}
-use Rattle.stage_work.proofs.Done.{called, kernel-done, other-done}
+use Rattle.stage_work.proofs.Done.{called, kernel-cut, kernel-done, on-err, other-done}
 use Rattle.stage_work.proofs.stepping.run_step.Goals as goal
 
 -- the kit has the function that the step calls
@@ -24,6 +24,16 @@ returns-in-Kernel-clause-done g c =
     (c.in-Some.ensures.takes c.in-Kernel.args
     (called c.args.kit.now c.args.step c.in-Kernel.name c.items.result.now c.in-Kernel.args c.in-Kernel.is c.items.ensures c.requires.call))
     c.in_ok-result-in-Kernel.ensures.kernel
+
+pub returns-in_err-result-in-Kernel-clause-left : goal.returns-in_err-result-in-Kernel-clause-left
+returns-in_err-result-in-Kernel-clause-left g c =
+    on-err _ _
+    (kernel-cut c.args.session.now.budget c.args.kit.now c.args.at c.args.step c.in-Kernel.name c.items.result.now c.in-Kernel.args
+    c.in-Some.function c.args.core.now c.run_kernel.new.core
+    c.in-Kernel.is c.items.ensures
+    (c.in-Some.ensures.takes c.in-Kernel.args
+    (called c.args.kit.now c.args.step c.in-Kernel.name c.items.result.now c.in-Kernel.args c.in-Kernel.is c.items.ensures c.requires.call))
+    c.in_err-result-in-Kernel.ensures.left)
 
 pub returns : goal.returns
 returns g c = record {

@@ -23,11 +23,11 @@ returns-clause-done g c =
 pub returns-clause-left : goal.returns-clause-left
 returns-clause-left g c =
     IfErr-weaker c.run_step.result _ _
-    (λ e grows. record {
+    (λ e cut. record {
       old = get_or c.args.cores.now c.args.at.pipeline c.index-cores-at.result;
       new = c.run_step.new.core;
       found = slice_get-get_or c.args.cores.now c.args.at.pipeline c.index-cores-at.result c.requires.there;
       leaves = refl;
-      so = grows;
+      so = cut;
     })
     c.run_step.ensures.left
