@@ -10,8 +10,9 @@ use Rattle.core_session.specs.Timed.{drained}
 use Rattle.exp_model.specs.declared.session.Session.{Session}
 use Rattle.sched_state.specs.declared.entry.SchedEntry.{SchedEntry}
 use Rattle.sched_core.specs.Scheds.{IsSched, SchedValue}
-use Rattle.lab_kernels.specs.Kernels.{ArePrompt}
+use Rattle.lab_kernels.specs.Kernels.{AreAskedAtTop, ArePrompt}
 use Rattle.lab_ties.specs.Finished.{IsFinished, IsFinishedCore}
+use Rattle.lab_ties.specs.Laws.{CoresAreAskedAtTop}
 use Rattle.lab_program.proofs.Alone.{as-slice}
 use Rattle.lab_program.specs.Draining.{AreDrained, IsDrained}
 use Rattle.lab_program.specs.Laboratories.{ArePromptCores, IsRunCore, IsRunOf, IsWorkedOff}
@@ -34,17 +35,18 @@ finished-on : (session : Session) (workers : ℕ) (sched : List SchedEntry) (pip
     → IsFinishedCore session workers sched pipeline left → IsFinishedCore session workers sched pipeline (drained left)
 finished-on session workers sched pipeline left f = record { config = f.config; closed = f.closed; chairs = f.chairs; tied = f.tied }
 
-run-core : HeadlineHolds → (before : List CoreState) (pipeline : ℕ) (core : CoreState) → IsDrained before pipeline core → IsRunCore core
-run-core headline before pipeline core d = record {
+run-core : HeadlineHolds → (before : List CoreState) (pipeline : ℕ) (core : CoreState) → AreAskedAtTop core.config [] core.history → IsDrained before pipeline core → IsRunCore core
+run-core headline before pipeline core at_top d = record {
   lawful = d.lawful;
+  at_top = at_top;
   idle = d.idle;
   stopped = subst (λ (c : CoreState). c.counter ≡ core_top c) (sym d.drained_is) refl;
   headline = headline core d.lawful.lawful;
 }
 
-pub finished : HeadlineHolds → (session : Session) (sched : SchedValue) (left cores : List CoreState)
+pub finished : HeadlineHolds → CoresAreAskedAtTop → (session : Session) (sched : SchedValue) (left cores : List CoreState)
     → IsWorkedOff session sched left → IsSched sched → AreDrained left cores → IsRunOf session sched cores
-finished headline session sched left cores done lawful all = record {
+finished headline late session sched left cores done lawful all = record {
   lawful = lawful;
   done = record {
     finished = record {
@@ -54,7 +56,7 @@ finished headline session sched left cores done lawful all = record {
     };
     prompt = λ alone pipeline core at. prompt pipeline core (done.prompt alone) (all.each pipeline core at);
   };
-  each = λ pipeline core at. run-core headline left pipeline core (all.each pipeline core at);
+  each = λ pipeline core at. run-core headline left pipeline core (at-top pipeline core (all.each pipeline core at)) (all.each pipeline core at);
 }
   where
     one : (pipeline : ℕ) (core : CoreState) → IsDrained left pipeline core → IsFinishedCore session session.workers sched.history pipeline core
@@ -63,16 +65,22 @@ finished headline session sched left cores done lawful all = record {
         subst F (sym d.drained_is)
         (finished-on session session.workers sched.history pipeline d.left (done.finished.each pipeline d.left d.found))
 
+    at-top : (pipeline : ℕ) (core : CoreState) → IsDrained left pipeline core → AreAskedAtTop core.config [] core.history
+    at-top pipeline core d =
+        let F : Session → Type 0 = λ s. IsFinishedCore s session.workers sched.history pipeline core in
+        late session.workers pipeline sched core lawful d.lawful.lawful
+        (subst F (sym done.finished.scheduler.session_is) (one pipeline core d))
+
     prompt : (pipeline : ℕ) (core : CoreState) → ArePromptCores left → IsDrained left pipeline core → ArePrompt [] core.history
     prompt pipeline core so d =
         let P : CoreState → Type 0 = λ c. ArePrompt [] c.history in
         subst P (sym d.drained_is) (so pipeline d.left d.found)
 
-pub finished-slice : HeadlineHolds → (session : Session) (sched : SchedValue) (left lent now : List CoreState) (n : ℕ)
+pub finished-slice : HeadlineHolds → CoresAreAskedAtTop → (session : Session) (sched : SchedValue) (left lent now : List CoreState) (n : ℕ)
     → n ≡ length left → lent ≡ left → IsWorkedOff session sched left → IsSched sched → AreDrained lent now
     → IsRunOf session sched (take n (now ++ drop (length now) left))
-finished-slice headline session sched left lent now n is same done lawful all =
+finished-slice headline late session sched left lent now n is same done lawful all =
     let R : List CoreState → Type 0 = λ cores. IsRunOf session sched cores in
     let D : List CoreState → Type 0 = λ cores. AreDrained cores now in
     subst R (sym (as-slice left now n is (all.count ∙ ap length same)))
-    (finished headline session sched left now done lawful (subst D same all))
+    (finished headline late session sched left now done lawful (subst D same all))

@@ -4,7 +4,7 @@ use Rattle.rtio_core.specs.Core.{CoreState, IsCore, core_top}
 use Rattle.rtio_headline.specs.Headline.{Headline}
 use Rattle.exp_model.specs.declared.session.Session.{Session}
 use Rattle.sched_core.specs.Scheds.{IsSched, SchedValue}
-use Rattle.lab_kernels.specs.Kernels.{ArePrompt}
+use Rattle.lab_kernels.specs.Kernels.{AreAskedAtTop, ArePrompt}
 use Rattle.lab_report.specs.Report.{lab_text}
 use Rattle.lab_ties.specs.Finished.{IsFinished}
 
@@ -17,10 +17,12 @@ pub record IsWorkedOff (session : Session) (sched : SchedValue) (cores : List Co
   pub finished : IsFinished session session.workers sched cores
   pub prompt : session.workers ≡ 1 → ArePromptCores cores
 
--- A core's history is lawful: each request stands at a counter that it may have, and got the right reply there. No request waits, and
--- the core ticked until it was stopped; and the headline holds of it
+-- A core's history is lawful: each request stands at a counter that it may have, and got the right reply there. That counter is the
+-- greatest that it may have, and an end at the horizon stands there. No request waits, and the core ticked until it was stopped; and
+-- the headline holds of it
 pub record IsRunCore (core : CoreState) : Type 0 where
   pub lawful : IsCore core
+  pub at_top : AreAskedAtTop core.config [] core.history
   pub idle : core.waiting ≡ None
   pub stopped : core.counter ≡ core_top core
   pub headline : Headline core

@@ -12,6 +12,7 @@ use exp_model::Session;
 use lab_crew::run_crew;
 use lab_kits::{Gate, Kit};
 use lab_report::report;
+use lab_ties::cores_are_asked_at_top;
 use rtio_core::Core;
 use rtio_headline::what_is_put_out_was_submitted;
 use sched_core::Sched;
@@ -52,6 +53,7 @@ fn finish<R: Threads + Wait + Sync, G: Gate + Sync>(
     ensures { IfOk result (λ left. IsRunOf session.now left.0 left.1.items) }
 {
     what_is_put_out_was_submitted();
+    cores_are_asked_at_top();
     let (sched, mut cores) = work_off(rt, alloc, session, gate, sched, cores)?;
     let _known = sched.history();
     drain_cores(&mut cores);

@@ -39,7 +39,7 @@ session-begun chair before k =
     ∙ ap steps_begun (acts_of-own chair (start ∷ (map asked_act k.asked ++ end ∷ [])))
     ∙ ap (λ (xs : List (ℕ × ℕ)). step_of k ∷ xs) (none-begun k.asked end refl)
 
-acts-append : (chair : ℕ) (front back : List Entry) → core_acts chair (front ++ back) ≡ core_acts chair front ++ core_acts chair back
+pub acts-append : (chair : ℕ) (front back : List Entry) → core_acts chair (front ++ back) ≡ core_acts chair front ++ core_acts chair back
 acts-append chair front back =
     ap (acts_of chair) (map-append (λ (entry : Entry). (entry.chair, entry.act)) front back)
     ∙ acts_of-append chair (booked_acts front) (booked_acts back)

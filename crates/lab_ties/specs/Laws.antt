@@ -1,8 +1,10 @@
--- What lasts while histories grow, and how a tie grows with them.
+-- What lasts while histories grow, how a tie grows with them, and what the ties make of a whole history.
 use Rattle.std.specs.Prelude.{◌≡◌, ℕ, List, [], ◌∷◌, ◌++◌, ℤ}
 use Rattle.rtio_core.specs.declared.data.Act.{Act}
 use Rattle.rtio_core.specs.declared.data.Config.{Config}
 use Rattle.rtio_core.specs.declared.data.Entry.{Entry}
+use Rattle.rtio_core.specs.Core.{CoreState}
+use Rattle.rtio_core.specs.Lawful.{IsLawful}
 use Rattle.exp_model.specs.declared.session.Session.{Session}
 use Rattle.exp_model.specs.declared.step.HostStep.TheVariants.{Kernel}
 use Rattle.kern_syntax.specs.Tree.{Bytes}
@@ -11,13 +13,15 @@ use Rattle.sched_state.specs.declared.entry.SchedEntry.{SchedEntry}
 use Rattle.sched_state.specs.Lawful.{state_after}
 use Rattle.sched_core.specs.declared.answer.Job.TheVariants.{Step}
 use Rattle.sched_core.specs.Calls.{IsJobFor}
+use Rattle.sched_core.specs.Scheds.{IsSched, SchedValue}
 use Rattle.code_law.specs.DoesAs.{DoesAs}
-use Rattle.lab_kernels.specs.Kernels.{KernelRun, session_entries}
+use Rattle.lab_kernels.specs.Kernels.{AreAskedAtTop, KernelRun, session_entries}
 use Rattle.lab_kernels.specs.Meanings.{IsKernelSession}
 use Rattle.lab_kits.specs.declared.kit.Kit.{Kit}
 use Rattle.lab_kits.specs.Calls.{HasFunction}
 use Rattle.lab_kits.specs.Kits.{KitCall, KitText, kit_source, program_in}
 use Rattle.lab_ties.specs.Acts.{core_acts}
+use Rattle.lab_ties.specs.Finished.{IsFinishedCore}
 use Rattle.lab_ties.specs.Judged.{IsJudged}
 use Rattle.lab_ties.specs.Steps.{IsKernelStep, start_of}
 use Rattle.lab_ties.specs.Ties.{AreTied, report_on, reports_of}
@@ -58,3 +62,11 @@ KernelsAreSteps =
 abbrev pub JudgementsLast : Type 0
 JudgementsLast =
     (session : Session) (sched more : List SchedEntry) (act : SchedAct) → IsJudged session sched act → IsJudged session (sched ++ more) act
+
+-- in the whole history of a finished core, whichever chairs made it, each request stands at the greatest counter that it may have,
+-- and each end at the horizon stands there
+abbrev pub CoresAreAskedAtTop : Type 0
+CoresAreAskedAtTop =
+    (workers pipeline : ℕ) (sched : SchedValue) (core : CoreState) → IsSched sched → IsLawful core.config core.history
+    → IsFinishedCore sched.session workers sched.history pipeline core
+    → AreAskedAtTop core.config [] core.history

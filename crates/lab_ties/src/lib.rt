@@ -5,4 +5,4 @@
 
 mod laws;
 
-pub use laws::{judgements_last, kernels_are_steps, ties_grow, ties_last};
+pub use laws::{cores_are_asked_at_top, judgements_last, kernels_are_steps, ties_grow, ties_last};

@@ -13,6 +13,6 @@ drain_cores-requires g c =
 pub returns : goal.returns
 returns g c =
     let len = c.in_ok-sched.cores.ok.0 in
-    finished-slice c.what_is_put_out_was_submitted.ensures c.args.session.now c.in_ok-sched.sched c.in_ok-sched.cores.items
+    finished-slice c.what_is_put_out_was_submitted.ensures c.cores_are_asked_at_top.ensures c.args.session.now c.in_ok-sched.sched c.in_ok-sched.cores.items
     c.deref_mut.result.now c.drain_cores.new.cores c.in_ok-sched.cores.len (omega (arith, len)) c.deref_mut.ensures.value
     c.in_ok-sched.ensures c.history-known.ensures.sched c.drain_cores.ensures
