@@ -52,9 +52,10 @@ pub fn lab_top<R: Threads + Wait + Sync, S: Source, K: Sink, E: Sink, G: Gate + 
     // Memory was refused.
     ensures memory { result ≡ 5 → OnlyTells (K.held out.old) (K.held out.new) (E.held err.old) (E.held err.new) (refusal_line memory) }
     // All that the source held is a session, and out has the report of a run of it: of a scheduler's lawful history in which every
-    // run has ended, and of lawful histories of the cores. Of each worker the sessions on a core are just the kernel steps that it
-    // reported, each of its step's source, function and arguments, with the requests, outcome and cursor that the source means; and
-    // what each core put out is what its sessions submitted, less what was overridden and what the log names.
+    // run has ended, and of lawful histories of the cores, in which each request was asked as late as it might be. Of each worker the
+    // sessions on a core are just the kernel steps that it reported, each of its step's source, function and arguments, with the
+    // requests, outcome and cursor that the source means; and what each core put out is what its sessions submitted, less what was
+    // overridden and what the log names.
     ensures due { result ≡ 0 → GivesReport (S.left source.old) (S.left source.new) (K.held out.old) (K.held out.new)
         × (E.held err.new ≡ E.held err.old) }
     // A sink failed, and has a part of what was due.
