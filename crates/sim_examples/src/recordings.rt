@@ -79,6 +79,22 @@ const RECORDINGS: &[Row] = &[
         status: 0,
         report: "out 1000 0 0 1\nout 1050 0 0 0\nlanes 2 0 0 0 0 0 0 0\nend ok\ncursor 1080\ncounter 1048\n",
     },
+    // What was erased isn't written.
+    Row {
+        words: &["sim", "--dma", "lines"],
+        text: "def main():
+    with core_dma.record(\"p\"):
+        ttl0.on()
+        delay_mu(50)
+        ttl0.off()
+        delay_mu(30)
+    with core_dma.record(\"q\"):
+        ttl1.pulse_mu(20)
+    core_dma.erase(\"p\")
+",
+        status: 0,
+        report: "lanes 0 0 0 0 0 0 0 0\nend ok\ncursor 0\ncounter 0\ndma q 020200000014000000000000000100010101001028\n",
+    },
 ];
 
 #[test]
