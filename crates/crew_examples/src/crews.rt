@@ -1,12 +1,30 @@
 // Sessions of several workers.
 
-use exp_json::read_session;
+use lab_io::{Page, Tape};
 use lab_kits::{Gate, OpenGate, Place};
-use lab_program::run_laboratory;
+use lab_program::lab_top;
 use std::alloc::{AllocError, Global};
+use std::process::Abort;
+use std::sync::Wait;
 use std::sync::atomic::{AtomicBool, AtomicU64, Ordering};
 use std::test::Fail;
-use std::thread;
+use std::thread::{self, Threads};
+
+// Calls the program on a session, asserts that it answers 0 and writes nothing to err, and gives what out holds.
+fn report_of<R: Abort + Threads + Wait + Sync, G: Gate + Sync>(
+    rt: &R,
+    alloc: Global,
+    json: &str,
+    gate: &G,
+) -> Result<String, Fail> {
+    let mut source = Tape::new(json.as_bytes().to_vec(alloc)?, 4096, Vec::new(alloc));
+    let mut out = Page::new(alloc, 1000, 16, Vec::new(alloc))?;
+    let mut err = Page::new(alloc, 1000, 16, Vec::new(alloc))?;
+    let status = lab_top(rt, alloc, &[], &mut source, &mut out, &mut err, gate);
+    assert_eq!(rt; status, 0, "{json}");
+    assert_eq!(rt; err.held().len(), 0, "{json}");
+    Ok(String::from_str(alloc, str::from_utf8(out.held())?)?)
+}
 
 // ---- any number of workers
 
@@ -33,9 +51,8 @@ fn one_pipeline_has_one_report_whoever_works(rt: HostRuntime) -> Result<(), Fail
     let alloc = rt.alloc();
     for workers in 1..9 {
         let json = text_for(alloc, workers)?;
-        let session = read_session(alloc, json.as_bytes())?;
-        let report = run_laboratory(&rt, alloc, &session, &OpenGate)?;
-        assert_eq!(rt; report.as_slice(), REPORT.as_bytes(), "{} workers", workers);
+        let report = report_of(&rt, alloc, json.as_str(), &OpenGate)?;
+        assert_eq!(rt; report.as_str(), REPORT, "{} workers", workers);
     }
     Ok(())
 }
@@ -47,6 +64,11 @@ const TWO: &str =
     r#"{"workers":2,"pipelines":[{},{}],"sources":["def main():\n    delay_mu(1000)\n    ttl0.pulse_mu(100)\n"],
 "experiments":[{"source":0,"prepare":[],"run":[{"kernel":"main","args":[]}],"analyze":[]}],
 "arrivals":[{"at":0,"submit":{"experiment":0,"pipeline":0}},{"at":0,"submit":{"experiment":0,"pipeline":1}}]}"#;
+
+// Behind the lines of the steps, whose order isn't settled.
+const END_OF_TWO: &str = "run 0 done\nrun 1 done
+core 0\nout 1000 0 0 1\nout 1100 0 0 0\ncursor 1100\ncounter 1096
+core 1\nout 1000 0 0 1\nout 1100 0 0 0\ncursor 1100\ncounter 1096\nend\n";
 
 const MOST_TURNS: u32 = 50_000_000;
 
@@ -87,12 +109,12 @@ impl Meeting {
 #[test]
 fn one_compiles_while_another_runs_a_kernel(rt: HostRuntime) -> Result<(), Fail> {
     let alloc = rt.alloc();
-    let session = read_session(alloc, TWO.as_bytes())?;
     let gate = Meeting {
         ended_by: AtomicU64::new(NOBODY),
         met: AtomicBool::new(false),
     };
-    run_laboratory(&rt, alloc, &session, &gate)?;
+    let report = report_of(&rt, alloc, TWO, &gate)?;
+    assert!(rt; report.ends_with(END_OF_TWO), "{report}");
     assert!(rt; gate.met.load(Ordering::SeqCst));
     Ok(())
 }
@@ -105,6 +127,12 @@ const FOUR: &str =
 "experiments":[{"source":0,"prepare":[],"run":[{"kernel":"main","args":[]}],"analyze":[]}],
 "arrivals":[{"at":0,"submit":{"experiment":0,"pipeline":0}},{"at":0,"submit":{"experiment":0,"pipeline":1}},
 {"at":0,"submit":{"experiment":0,"pipeline":2}},{"at":0,"submit":{"experiment":0,"pipeline":3}}]}"#;
+
+const END_OF_FOUR: &str = "run 0 done\nrun 1 done\nrun 2 done\nrun 3 done
+core 0\nout 1000 0 0 1\nout 1100 0 0 0\ncursor 1100\ncounter 1096
+core 1\nout 1000 0 0 1\nout 1100 0 0 0\ncursor 1100\ncounter 1096
+core 2\nout 1000 0 0 1\nout 1100 0 0 0\ncursor 1100\ncounter 1096
+core 3\nout 1000 0 0 1\nout 1100 0 0 0\ncursor 1100\ncounter 1096\nend\n";
 
 // Keeps each worker that is about to compile until four are, and tells whether they all were at once.
 #[derive(Drop)]
@@ -137,12 +165,12 @@ impl Gathering {
 #[test]
 fn four_compile_at_once(rt: HostRuntime) -> Result<(), Fail> {
     let alloc = rt.alloc();
-    let session = read_session(alloc, FOUR.as_bytes())?;
     let gate = Gathering {
         compiling: AtomicU64::new(0),
         gathered: AtomicBool::new(false),
     };
-    run_laboratory(&rt, alloc, &session, &gate)?;
+    let report = report_of(&rt, alloc, FOUR, &gate)?;
+    assert!(rt; report.ends_with(END_OF_FOUR), "{report}");
     assert!(rt; gate.gathered.load(Ordering::SeqCst));
     Ok(())
 }
