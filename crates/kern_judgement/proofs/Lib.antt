@@ -1,0 +1,12 @@
+pub mod CallsFitting
+pub mod ExpressionsFound
+pub mod ExpressionsJudged
+pub mod Fitting
+pub mod Inverted
+pub mod ProgramsFound
+pub mod ProgramsJudged
+pub mod StatementsFound
+pub mod StatementsJudged
+pub mod ToldFunctions
+pub mod ToldNames
+pub mod ToldTypes

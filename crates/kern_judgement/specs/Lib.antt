@@ -1,0 +1,5 @@
+pub mod Fitting
+pub mod Expressions
+pub mod Statements
+pub mod Programs
+pub mod Told
