@@ -1,0 +1,14 @@
+pub mod Arguments
+pub mod Begin
+pub mod Calculus
+pub mod Expressions
+pub mod Flow
+pub mod Functions
+pub mod Kept
+pub mod Lookups
+pub mod NamedValues
+pub mod NamesBehind
+pub mod Numbers
+pub mod ShortArrays
+pub mod Statements
+pub mod Whole
