@@ -12,9 +12,10 @@ use crate::end::CodeEnd;
 use crate::functions::put_functions;
 use code_law::{checked_programs_are_fit, code_does_as};
 use code_ranges::functions_are_ready;
-use core_code_names::{Functions, number_functions, texts_of};
+use core_code_names::texts_of;
 use core_image::{Verified, verify};
 use core_isa::{Code, CodeFunctionList, CodeLineList, NameList};
+use kern_names::{Functions, number_functions};
 use kern_syntax::nodes;
 use kern_types::Checked;
 use std::alloc::{AllocError, Global};
@@ -124,16 +125,17 @@ fn code_of(alloc: Global, checked: &Checked) -> Result<Code, AllocError>
     })
 }
 
-ghost use Rattle.std.specs.Prelude.{codes, unwrap_or};
+ghost use Rattle.std.specs.Prelude.{◌<◌, ◌^◌, codes, length, unwrap_or};
 ghost use Rattle.kern_types.specs.Programs.{place_of_function};
-ghost use Rattle.core_code_names.specs.SettingOf.{program_of};
+ghost use Rattle.kern_names.specs.ScopeOf.{program_of};
 
 // The index of `main`.
 fn main_of(functions: &Functions<'_>) -> u16
+    requires { length functions.now.functions.now < 2 ^ 16 }
     ensures { result ≡ unwrap_or (place_of_function (program_of functions.now) (codes "main")) 0 }
 {
     match functions.place(b"main".as_slice()) {
-        Some(place) => place,
+        Some(place) => place as u16,
         None => 0,
     }
 }

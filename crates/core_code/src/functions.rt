@@ -6,12 +6,13 @@ ghost use Rattle.kern_expression_types.specs.Before.{is_in};
 ghost use Rattle.code_forms.specs.Programs.{block_slots, entries_of, entry_of, function_code, function_size, functions_code};
 ghost use Rattle.code_forms.specs.Setting.{slots_of_names};
 ghost use Rattle.code_ranges.specs.Laws.{IsReadyFunction};
-ghost use Rattle.core_code_names.specs.SettingOf.{program_of};
+ghost use Rattle.kern_names.specs.ScopeOf.{program_of};
 ghost use Rattle.core_code.specs.Ready.{AreReadyFrom};
 
-use core_code_names::{Functions, Names, Setting, Texts, block_slots, names_of};
+use core_code_names::{Setting, SlottedNames, Texts, block_slots};
 use core_code_statements::put_body;
 use core_isa::{CodeFunction, CodeLine};
+use kern_names::{Functions, names_of};
 use kern_syntax::Function;
 use kern_types::NameList;
 use std::alloc::{AllocError, Global};
@@ -24,7 +25,12 @@ pub struct Parts {
 }
 
 // The entry of a function that has these names and whose code begins at a place.
-fn entry_of(plain: &NameList, names: &Names, place: usize, function: &Function) -> CodeFunction
+fn entry_of(
+    plain: &NameList,
+    names: &SlottedNames,
+    place: usize,
+    function: &Function,
+) -> CodeFunction
     requires place { place < 2 ^ 32 }
     requires parameters { length function.now.parameters ≤ 8 }
     requires slots { slots_of_names names.now + block_slots (block_of function.now.body) < 2 ^ 16 }
@@ -54,7 +60,8 @@ fn put_function(
     parts: &mut Parts,
     function: &Function,
 ) -> Result<(), AllocError>
-    requires { IsReadyFunction (program_of program.now) texts.now (length parts.old.lines.items) (function_of function.now) }
+    requires few { length program.now.functions.now < 2 ^ 16 }
+    requires ready { IsReadyFunction (program_of program.now) texts.now (length parts.old.lines.items) (function_of function.now) }
     ensures entry { OnOk result (parts.new.entries.items ≡ parts.old.entries.items
         ++ entry_of (program_of program.now) plain.now (length parts.old.lines.items) (function_of function.now) ∷ []) }
     ensures code { OnOk result (parts.new.lines.items ≡ parts.old.lines.items
@@ -62,7 +69,7 @@ fn put_function(
     ensures longer { OnOk result (length parts.new.lines.items ≡ length parts.old.lines.items
         + function_size (program_of program.now) texts.now (function_of function.now)) }
 {
-    let names = names_of(alloc, program, function)?;
+    let names = SlottedNames::of(alloc, names_of(alloc, program, function)?)?;
     let entry = entry_of(plain, &names, parts.lines.len(), function);
     parts.entries.push(entry)?;
     let value = function.result.is_some();
@@ -77,7 +84,8 @@ pub fn put_functions(
     plain: &NameList,
     texts: &Texts,
 ) -> Result<Parts, AllocError>
-    requires { AreReadyFrom (program_of program.now) texts.now 0 (program_of program.now) }
+    requires few { length program.now.functions.now < 2 ^ 16 }
+    requires ready { AreReadyFrom (program_of program.now) texts.now 0 (program_of program.now) }
     ensures entries { IfOk result (λ parts. parts.entries.items
         ≡ entries_of (program_of program.now) plain.now texts.now 0 (program_of program.now)) }
     ensures code { IfOk result (λ parts. parts.lines.items

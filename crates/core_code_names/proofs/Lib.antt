@@ -1,4 +1,2 @@
-pub mod LaidOut
-pub mod Numbers
-pub mod Positions
+pub mod Firsts
 pub mod TextsAfter

@@ -3,18 +3,13 @@
 #![tactic(auto)]
 
 mod collecting;
-mod functions;
-mod local_names;
-mod names;
 mod setting;
 mod slots;
+mod slotted;
 mod texts;
-mod types;
 
 pub use collecting::texts_of;
-pub use functions::{Functions, number_functions};
-pub use local_names::names_of;
-pub use names::Names;
 pub use setting::Setting;
 pub use slots::block_slots;
+pub use slotted::SlottedNames;
 pub use texts::Texts;

@@ -3,10 +3,10 @@
 ghost use Rattle.std.specs.Prelude.{◌≡◌, ◌<◌, ◌^◌, length};
 ghost use Rattle.code_forms.specs.Setting.{slots_of_names};
 
-use crate::functions::Functions;
-use crate::names::Names;
+use crate::slotted::SlottedNames;
 use crate::texts::Texts;
 use kern_calls::ValueType;
+use kern_names::Functions;
 use kern_syntax::DeclaredType;
 
 /// What the code of a function rests on. Contracts see it by `setting_of`.
@@ -15,11 +15,12 @@ pub struct Setting<'a> {
     /// The functions of the program.
     pub functions: Functions<'a>,
     /// The names of the function with their types and slots.
-    pub names: &'a Names,
+    pub names: &'a SlottedNames,
     /// The names of recordings and datasets of the program.
     pub texts: &'a Texts,
     /// Whether the function has a value.
     pub value: bool,
+    ghost few_functions: { length functions.functions.now < 2 ^ 16 },
     ghost few_slots: { slots_of_names names.now < 2 ^ 16 },
     ghost few_texts: { length texts.now < 2 ^ 16 },
 }
@@ -30,15 +31,17 @@ impl<'a> Setting<'a> {
     ghost use Rattle.kern_calls.specs.Types.{function_named};
     ghost use Rattle.code_forms.specs.Setting.{slot_of, length_of, index_of_text, index_of_function, has_value};
     ghost use Rattle.code_forms.specs.Setting.{slots_of_names};
-    ghost use Rattle.core_code_names.specs.SettingOf.{program_of, setting_of};
+    ghost use Rattle.kern_names.specs.ScopeOf.{program_of};
+    ghost use Rattle.core_code_names.specs.SettingOf.{setting_of};
 
     /// A function of this program, with these names and texts, that has a value or not.
     pub fn new(
         functions: Functions<'a>,
-        names: &'a Names,
+        names: &'a SlottedNames,
         texts: &'a Texts,
         value: bool,
     ) -> Setting<'a>
+        requires few_functions { length functions.functions.now < 2 ^ 16 }
         requires few_slots { slots_of_names names.now < 2 ^ 16 }
         requires few_texts { length texts.now < 2 ^ 16 }
         ensures { setting_of result ≡ record {
@@ -94,7 +97,7 @@ impl<'a> Setting<'a> {
         ensures { result ≡ index_of_function (setting_of self.now) name.now }
     {
         match self.functions.place(name) {
-            Some(place) => place,
+            Some(place) => place as u16,
             None => 0,
         }
     }

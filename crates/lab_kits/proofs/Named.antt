@@ -19,7 +19,7 @@ use Rattle.kern_expression_types.specs.declared.fault.TypeKind.TheVariants as K
 use Rattle.kern_types.specs.Plain.{with_plain}
 use Rattle.kern_types.specs.Programs.{IsTyped, body_functions, body_verdict, function_verdict, functions_verdict, most_functions, place_of_function, program_verdict}
 use Rattle.code_suited.proofs.Inverted.{inverted, not_refused}
-use Rattle.core_code_names.proofs.Positions.{position_behind, position_first}
+use Rattle.kern_names.proofs.Positions.{position_behind, position_first}
 use Rattle.lab_kits.specs.Calls.{HasCallOf, HasFunction}
 
 abbrev has_name : Bytes → FunctionTree → Bool

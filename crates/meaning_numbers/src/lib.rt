@@ -2,9 +2,8 @@
 #![tactic(auto)]
 
 mod arithmetic;
-mod kind;
 mod operators;
+mod width;
 
 pub use arithmetic::{low_byte, low_signed, low_word, moved_on};
-pub use kind::{Kind, binary_kind, declared_kind, kind_of_literal, wider_kind};
 pub use operators::{changed, compared, operated};

@@ -3,19 +3,20 @@
 ghost use Rattle.std.specs.Prelude.{◌≡◌, option_map};
 ghost use Rattle.std.specs.Int.{int_wrap, w64};
 ghost use Rattle.kern_calls.specs.Types.{bits_of, width_of};
-ghost use Rattle.meaning_numbers.specs.Kinds.{IsShiftWidth, type_of_kind};
+ghost use Rattle.meaning_numbers.specs.Widths.{IsShiftWidth};
 ghost use Rattle.timeline_sem.specs.Numbers.{compares, exact_result, unary_result};
 
 use crate::arithmetic::{low_signed, quotient, remainder, shifted_left, shifted_right};
-use crate::kind::{Kind, bits_of};
+use crate::width::bits_of;
+use kern_calls::ValueType;
 use kern_syntax::{BinaryOperator, Comparison, UnaryOperator};
 
 // A number wrapped at the width of a type.
-fn wrapped(kind: Kind, a: i64) -> i64
-    ensures { result ≡ int_wrap (width_of (type_of_kind kind)) a }
+fn wrapped(kind: ValueType, a: i64) -> i64
+    ensures { result ≡ int_wrap (width_of kind) a }
 {
     match kind {
-        Kind::Int32 => low_signed(a),
+        ValueType::Int32 => low_signed(a),
         _ => a,
     }
 }
@@ -40,8 +41,8 @@ fn combined(operator: BinaryOperator, bits: u8, a: i64, b: i64) -> Option<i64>
 }
 
 /// The result of an operator, wrapped at the width of its type; none of a division by 0.
-pub fn operated(operator: BinaryOperator, kind: Kind, a: i64, b: i64) -> Option<i64>
-    ensures { result ≡ option_map (int_wrap (width_of (type_of_kind kind))) (exact_result operator (bits_of (type_of_kind kind)) a b) }
+pub fn operated(operator: BinaryOperator, kind: ValueType, a: i64, b: i64) -> Option<i64>
+    ensures { result ≡ option_map (int_wrap (width_of kind)) (exact_result operator (bits_of kind) a b) }
 {
     match combined(operator, bits_of(kind), a, b) {
         Some(whole) => Some(wrapped(kind, whole)),
@@ -50,8 +51,8 @@ pub fn operated(operator: BinaryOperator, kind: Kind, a: i64, b: i64) -> Option<
 }
 
 /// The result of `-` or `~`, wrapped at the width of its type.
-pub fn changed(operator: UnaryOperator, kind: Kind, a: i64) -> i64
-    ensures { result ≡ int_wrap (width_of (type_of_kind kind)) (unary_result operator a) }
+pub fn changed(operator: UnaryOperator, kind: ValueType, a: i64) -> i64
+    ensures { result ≡ int_wrap (width_of kind) (unary_result operator a) }
 {
     match operator {
         UnaryOperator::Negate => wrapped(kind, a.wrapping_neg()),

@@ -1,7 +1,6 @@
 -- What a function that runs knows.
-use Rattle.kern_syntax.specs.TreeOf.{tree_of}
 use Rattle.kern_calls.specs.Types.{Scope}
-use Rattle.meaning_names.specs.ScopeOf.{scope_of}
+use Rattle.kern_names.specs.ScopeOf.{program_of, scope_of}
 use Rattle.meaning_runs.specs.declared.frame.Frame.{Frame}
 use Rattle.timeline_sem.specs.Expressions.{Callee}
 use Rattle.timeline_sem.specs.Programs.{function_call}
@@ -12,4 +11,4 @@ scope_in frame = scope_of frame.scope
 
 -- what its calls mean
 abbrev pub calls_in : Frame → Callee
-calls_in frame = function_call (tree_of frame.scope.functions.now) frame.room
+calls_in frame = function_call (program_of frame.scope.functions) frame.room

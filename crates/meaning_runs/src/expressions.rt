@@ -9,8 +9,8 @@ ghost use Rattle.timeline_sem.specs.Expressions.{arguments, expression};
 
 use crate::frame::Frame;
 use crate::functions::perform_call;
+use kern_names::type_of;
 use kern_syntax::{Argument, Expr};
-use meaning_names::kind_of;
 use meaning_numbers::{changed, compared};
 use meaning_state::{Early, State};
 use meaning_steps::{is_true, keep, number_of, operate, perform_method};
@@ -39,12 +39,12 @@ pub fn evaluate(
         Expr::Group(inner) => evaluate(alloc, frame, state, inner),
         Expr::Unary(operator, operand) => {
             let a = evaluate(alloc, frame, state, operand)?;
-            Ok(changed(*operator, kind_of(&frame.scope, operand), a))
+            Ok(changed(*operator, type_of(&frame.scope, operand), a))
         }
         Expr::Binary(operator, left, right) => {
             let a = evaluate(alloc, frame, state, left)?;
             let b = evaluate(alloc, frame, state, right)?;
-            operate(*operator, kind_of(&frame.scope, e), a, b)
+            operate(*operator, type_of(&frame.scope, e), a, b)
         }
         Expr::Compare(comparison, left, right) => {
             let a = evaluate(alloc, frame, state, left)?;

@@ -1,10 +1,10 @@
 // A function that runs.
 
-ghost use Rattle.kern_syntax.specs.TreeOf.{tree_of};
+ghost use Rattle.kern_names.specs.ScopeOf.{program_of};
 ghost use Rattle.meaning_steps.specs.RunnableFacts.{functions-prop};
 ghost use Rattle.meaning_steps.specs.RunnableStatements.{AreRunnableFunctions};
 
-use meaning_names::Scope;
+use kern_names::Scope;
 
 /// A function that runs, in a program whose functions can run. Contracts see what it knows by `scope_in` and `calls_in`.
 #[derive(Clone, Copy)]
@@ -13,5 +13,5 @@ pub struct Frame<'a> {
     pub scope: Scope<'a>,
     /// How many functions more may become active while it runs.
     pub room: u32,
-    ghost runnable: { AreRunnableFunctions (tree_of scope.functions.now) } by { functions-prop (tree_of scope.functions.now) },
+    ghost runnable: { AreRunnableFunctions (program_of scope.functions) } by { functions-prop (program_of scope.functions) },
 }

@@ -1,7 +1,8 @@
 // Calls, and the functions of a program.
 
 ghost use Rattle.kern_calls.specs.Calls.{builtin_named};
-ghost use Rattle.kern_syntax.specs.TreeOf.{arguments_of, block_of, function_of, tree_of};
+ghost use Rattle.kern_names.specs.ScopeOf.{program_of};
+ghost use Rattle.kern_syntax.specs.TreeOf.{arguments_of, block_of, function_of};
 ghost use Rattle.meaning_runs.specs.Frames.{calls_in, scope_in};
 ghost use Rattle.meaning_state.specs.Does.{Does};
 ghost use Rattle.meaning_steps.specs.Runnable.{CallIsTold};
@@ -12,8 +13,8 @@ ghost use Rattle.timeline_sem.specs.Programs.{function_body, function_call};
 use crate::blocks::run_block;
 use crate::frame::Frame;
 use kern_calls::builtin_named;
+use kern_names::{Functions, Scope, names_of};
 use kern_syntax::{Argument, Function};
-use meaning_names::{Scope, function_named, names_of};
 use meaning_state::{Early, Reason, State};
 use meaning_steps::{finished, initial_values, perform_builtin};
 use rtio_types::Exc;
@@ -51,11 +52,11 @@ fn run_named(
     ensures { Does result state.new (calls_in frame.now name.now numbers.now state.old) }
 {
     state.take_unit()?;
-    let functions = frame.scope.functions;
+    let functions = &frame.scope.functions;
     if frame.room == 0 {
         return Err(Early::Ended(Reason::Raised(Exc::StackOverflow)));
     }
-    match function_named(functions, name) {
+    match functions.named(name) {
         Some(function) => run_function(alloc, functions, frame.room - 1, state, function, numbers),
         None => Ok(0),
     }
@@ -65,22 +66,22 @@ fn run_named(
 #[cycle(runs)]
 pub fn run_function(
     alloc: Global,
-    functions: &[Function],
+    functions: &Functions<'_>,
     room: u32,
     state: &mut State<'_>,
     function: &Function,
     numbers: &[i64],
 ) -> Result<i64, Early>
-    requires functions { AreRunnableFunctions (tree_of functions.now) }
+    requires functions { AreRunnableFunctions (program_of functions.now) }
     requires body { IsRunnableBlock (block_of function.now.body) }
-    ensures { Does result state.new (function_body (tree_of functions.now) (function_call (tree_of functions.now) room) (function_of function.now) numbers.now state.old) }
+    ensures { Does result state.new (function_body (program_of functions.now) (function_call (program_of functions.now) room) (function_of function.now) numbers.now state.old) }
 {
     let names = names_of(alloc, functions, function)?;
     let values = initial_values(alloc, &names, numbers)?;
     let before = state.exchange(values);
     let frame = Frame {
         scope: Scope {
-            functions,
+            functions: *functions,
             names: &names,
         },
         room,

@@ -5,9 +5,9 @@ ghost use Rattle.meaning_state.specs.Does.{Does};
 ghost use Rattle.timeline_sem.specs.Statements.{operator_of};
 
 use crate::operating::operate;
+use kern_calls::ValueType;
+use kern_names::{Scope, type_of_name};
 use kern_syntax::{Augment, BinaryOperator};
-use meaning_names::{Scope, kind_of_name};
-use meaning_numbers::Kind;
 use meaning_state::{Early, Held, State};
 use std::alloc::{AllocError, Global};
 
@@ -35,11 +35,11 @@ pub fn set_sum(
 ) -> Result<(), Early>
     ensures { Does result state.new (set_sum x.now place operator held added state.old) }
 {
-    let new = operate(operator_of(operator), Kind::Int64, held, added)?;
+    let new = operate(operator_of(operator), ValueType::Int64, held, added)?;
     state.set_element(alloc, x, place, new)
 }
 
-ghost use Rattle.meaning_names.specs.ScopeOf.{scope_of};
+ghost use Rattle.kern_names.specs.ScopeOf.{scope_of};
 ghost use Rattle.meaning_steps.specs.Turns.{hold_sum};
 
 /// A name becomes what it held and what is added, wrapped at the width of its type.
@@ -53,7 +53,7 @@ pub fn hold_sum(
 ) -> Result<(), Early>
     ensures { Does result state.new (hold_sum (scope_of scope.now) x.now operator held added state.old) }
 {
-    let kind = kind_of_name(scope, x);
+    let kind = type_of_name(scope, x);
     let new = operate(operator_of(operator), kind, held, added)?;
     state.hold(x, Held::Number(new));
     Ok(())

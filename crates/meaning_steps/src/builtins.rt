@@ -4,14 +4,14 @@ ghost use Rattle.std.specs.Prelude.{◌≡◌, [], is_some, option_map, true, un
 ghost use Rattle.kern_calls.specs.Calls.{method_named};
 ghost use Rattle.kern_syntax.specs.TreeOf.{arguments_of, expression_of};
 ghost use Rattle.meaning_steps.specs.Runnable.{array_argument, has_text, BuiltinIsTold, MethodIsTold};
-ghost use Rattle.meaning_names.specs.ScopeOf.{scope_of};
+ghost use Rattle.kern_names.specs.ScopeOf.{scope_of};
 ghost use Rattle.meaning_state.specs.Does.{Does};
 ghost use Rattle.timeline_sem.specs.Expressions.{array_in, perform_builtin, perform_method, text_in};
 
-use kern_calls::Builtin;
+use kern_calls::{Builtin, ValueType};
+use kern_names::{Scope, method_named};
 use kern_syntax::{Argument, Expr, Identifier};
-use meaning_names::{Scope, method_named};
-use meaning_numbers::{Kind, low_signed};
+use meaning_numbers::low_signed;
 use meaning_state::{Early, State, first_number, perform};
 use rtio_types::{Name, Request, Value};
 use std::alloc::{AllocError, Global};
@@ -35,7 +35,7 @@ fn array_in<'b>(scope: &Scope<'_>, e: &'b Expr) -> Option<&'b Identifier>
 {
     match e {
         Expr::Variable(x) => match scope.names.kind(x.bytes()) {
-            Some(Kind::Array(_)) => Some(x),
+            Some(ValueType::Array(_)) => Some(x),
             _ => None,
         },
         Expr::Group(inner) => array_in(scope, inner),

@@ -1,30 +1,29 @@
 // How a function begins and ends: the values of its names, and what it gives.
 
 ghost use Rattle.std.specs.Prelude.{◌≡◌, IfOk};
-ghost use Rattle.meaning_numbers.specs.Kinds.{type_of_kind};
 ghost use Rattle.meaning_state.specs.Values.{value_held};
 ghost use Rattle.meaning_steps.specs.Entering.{first_value, later_args};
 ghost use Rattle.timeline_sem.specs.Programs.{initial_value, initial_values};
 
 use crate::assigning::repeated;
-use meaning_names::{KnownName, Names};
-use meaning_numbers::Kind;
+use kern_calls::ValueType;
+use kern_names::{KnownName, Names};
 use meaning_state::{Early, Held, Reason, Variable};
 use std::alloc::{AllocError, Global};
 
 // The value that a name starts with: 0, False or an array of 0. The only error is want of memory.
-fn initial(alloc: Global, kind: Kind) -> Result<Held, AllocError>
-    ensures { IfOk result (λ held. value_held held ≡ initial_value (type_of_kind kind)) }
+fn initial(alloc: Global, kind: ValueType) -> Result<Held, AllocError>
+    ensures { IfOk result (λ held. value_held held ≡ initial_value kind) }
 {
     match kind {
-        Kind::Array(length) => Ok(Held::Array(repeated(alloc, 0, length)?)),
+        ValueType::Array(length) => Ok(Held::Array(repeated(alloc, 0, length as u64)?)),
         _ => Ok(Held::Number(0)),
     }
 }
 
 // The value that the next name starts with: the next argument, if there is one.
-fn first_held(alloc: Global, kind: Kind, args: &[i64]) -> Result<Held, AllocError>
-    ensures { IfOk result (λ held. value_held held ≡ first_value (type_of_kind kind) args.now) }
+fn first_held(alloc: Global, kind: ValueType, args: &[i64]) -> Result<Held, AllocError>
+    ensures { IfOk result (λ held. value_held held ≡ first_value kind args.now) }
 {
     match args {
         [] => initial(alloc, kind),
@@ -33,11 +32,15 @@ fn first_held(alloc: Global, kind: Kind, args: &[i64]) -> Result<Held, AllocErro
 }
 
 // The next name with the value that it starts with.
-fn first_variable(alloc: Global, known: &KnownName, args: &[i64]) -> Result<Variable, AllocError>
-    ensures { IfOk result (λ variable. variable ≡ (known.now.0, first_value known.now.1 args.now)) }
+fn first_variable(
+    alloc: Global,
+    known: &KnownName<'_>,
+    args: &[i64],
+) -> Result<Variable, AllocError>
+    ensures { IfOk result (λ variable. variable ≡ (known.now.name.now, first_value known.now.kind args.now)) }
 {
-    let held = first_held(alloc, known.kind(), args)?;
-    let name = Vec::from_slice(alloc, known.bytes())?;
+    let held = first_held(alloc, known.kind, args)?;
+    let name = Vec::from_slice(alloc, known.name)?;
     Ok(Variable::of(name, held))
 }
 
@@ -62,8 +65,8 @@ pub fn initial_values(
 {
     let mut values = Vec::new(alloc);
     let mut left = args;
-    for known in names.items().iter() {
-        values.push(first_variable(alloc, known, left)?)?;
+    for place in 0..names.len() {
+        values.push(first_variable(alloc, &names.at(place), left)?)?;
         left = later_args(left);
     }
     Ok(values)

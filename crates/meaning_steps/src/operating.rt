@@ -1,14 +1,14 @@
 // Operators and truth values.
 
 ghost use Rattle.std.specs.Prelude.{◌≡◌};
-ghost use Rattle.meaning_numbers.specs.Kinds.{type_of_kind};
 ghost use Rattle.meaning_state.specs.Does.{Does};
 ghost use Rattle.rtio_types.specs.Integers.{is_true, number_of};
 ghost use Rattle.timeline_sem.specs.Actions.{State as Meant};
 ghost use Rattle.timeline_sem.specs.Expressions.{operate};
 
+use kern_calls::ValueType;
 use kern_syntax::BinaryOperator;
-use meaning_numbers::{Kind, operated};
+use meaning_numbers::operated;
 use meaning_state::{Early, Reason};
 use rtio_types::Exc;
 
@@ -27,8 +27,8 @@ pub fn number_of(truth: bool) -> i64
 }
 
 /// The result of an operator, wrapped at the width of its type. A divisor of 0 raises.
-pub fn operate(operator: BinaryOperator, kind: Kind, a: i64, b: i64) -> Result<i64, Early>
-    ensures { (s : Meant) → Does result s (operate operator (type_of_kind kind) a b s) }
+pub fn operate(operator: BinaryOperator, kind: ValueType, a: i64, b: i64) -> Result<i64, Early>
+    ensures { (s : Meant) → Does result s (operate operator kind a b s) }
 {
     match operated(operator, kind, a, b) {
         Some(number) => Ok(number),

@@ -5,6 +5,7 @@ ghost use Rattle.meaning_state.specs.Does.{Does, reason_of};
 ghost use Rattle.timeline_sem.specs.Actions as A;
 ghost use Rattle.timeline_sem.specs.Programs.{meaning_of, outcome_of};
 
+use kern_names::{Functions, number_functions};
 use kern_syntax::Function;
 use kern_types::Checked;
 use meaning_runs::run_function;
@@ -63,6 +64,7 @@ fn ended(ran: Result<i64, Early>) -> Result<MeantOutcome, AllocError>
 }
 
 ghost use Rattle.std.specs.Prelude.{option_map, IfSome};
+ghost use Rattle.kern_names.specs.ScopeOf.{program_of};
 ghost use Rattle.kern_syntax.specs.TreeOf.{block_of, function_of, tree_of};
 ghost use Rattle.meaning_steps.specs.RunnableStatements.{AreRunnableFunctions, IsRunnableBlock};
 ghost use Rattle.timeline_sem.specs.Programs.{call_room, function_call, meaning, optional_body};
@@ -70,14 +72,14 @@ ghost use Rattle.timeline_sem.specs.Programs.{call_room, function_call, meaning,
 // The function, if there is one.
 fn run_first(
     alloc: Global,
-    functions: &[Function],
+    functions: &Functions<'_>,
     state: &mut State<'_>,
     first: Option<&Function>,
     args: &[i64],
 ) -> Result<i64, Early>
-    requires functions { AreRunnableFunctions (tree_of functions.now) }
+    requires functions { AreRunnableFunctions (program_of functions.now) }
     requires body { IfSome first (λ f. IsRunnableBlock (block_of f.now.body)) }
-    ensures { Does result state.new (optional_body (tree_of functions.now) (function_call (tree_of functions.now) call_room) (option_map (λ f. function_of f.now) first.entry) args.now state.old) }
+    ensures { Does result state.new (optional_body (program_of functions.now) (function_call (program_of functions.now) call_room) (option_map (λ f. function_of f.now) first.entry) args.now state.old) }
 {
     match first {
         Some(function) => run_function(alloc, functions, CALL_ROOM, state, function, args),
@@ -110,9 +112,14 @@ pub fn meaning(
     ensures { IfOk result (λ meant. meant ≡ meaning (tree_of checked.now) function args.now cursor units replies.now) }
 {
     let functions = checked.program().functions();
+    let numbers = number_functions(alloc, functions)?;
+    let program = Functions {
+        functions,
+        numbers: &numbers,
+    };
     let mut state = State::opening(alloc, cursor, units, replies);
     let first = function_at(functions, function);
-    let outcome = ended(run_first(alloc, functions, &mut state, first, args))?;
+    let outcome = ended(run_first(alloc, &program, &mut state, first, args))?;
     let cursor = state.cursor();
     let units = state.units();
     Ok(Meant {

@@ -5,8 +5,9 @@ use Rattle.std.proofs.lemmas.Int.{to_z-of_z}
 use Rattle.std.proofs.lemmas.Result.{err_from_is_err_and}
 use Rattle.kern_syntax.specs.declared.expression.Argument.TheFolds.{the_lemmas}
 use Rattle.kern_syntax.specs.Tree.{FunctionTree, binary, no_more}
-use Rattle.kern_syntax.specs.TreeOf.{expression_of, arguments_of, argument_of, block_of, function_of, tree_of}
+use Rattle.kern_syntax.specs.TreeOf.{expression_of, arguments_of, argument_of, block_of, function_of}
 use Rattle.kern_calls.specs.Types.{function_named, names_of, type_of}
+use Rattle.kern_names.specs.ScopeOf.{program_of}
 use Rattle.meaning_runs.specs.Frames.{calls_in, scope_in}
 use Rattle.meaning_state.specs.Does.{Does, EndsAs}
 use Rattle.timeline_sem.specs.Actions.{normal, give, ◌>>=◌}
@@ -77,7 +78,7 @@ expressions::evaluate-returns-in_ok-b-in-Binary t c =
     let second : expression scope callee right middle ≡ normal b last = ap (λ e. expression scope callee (expression_of e) middle) (sym c.deref-in-Binary-2.ensures) ∙ c.in_ok-b-in-Binary.ensures in
     let fits_a : FitsSigned w64 a = search rules in
     let fits_b : FitsSigned w64 b = search rules in
-    let typed = c.kind_of-in-Binary.ensures ∙ ap (type_of scope) tree in
+    let typed = c.type_of-in-Binary.ensures ∙ ap (type_of scope) tree in
     let by_type = subst (λ t. Does r last (operate arm.operator t (to_z w64 (of_z w64 a)) (to_z w64 (of_z w64 b)) last)) typed (c.operate.ensures last) in
     let done : Does r last (operate arm.operator (type_of scope (binary arm.operator left right)) a b last) = subst₂ (λ a b. Does r last (operate arm.operator (type_of scope (binary arm.operator left right)) a b last)) (to_z-of_z w64 a fits_a) (to_z-of_z w64 b fits_b) by_type in
     subst (λ e. Does r last (expression scope callee e s)) (sym tree) (binary_then scope callee arm.operator left right s middle last a b r first second done)
@@ -184,7 +185,7 @@ loops::run_for-loop-at-preserved t c =
 
 pub functions::run_function-returns : goal.functions::run_function-returns
 functions::run_function-returns t c =
-    let program = tree_of c.args.functions.now in
+    let program = program_of c.args.functions.now in
     let s = c.args.state.now in
     let inside = c.exchange-before.new.self in
     let names = c.in_ok-names.names in
@@ -195,7 +196,7 @@ functions::run_function-returns t c =
 
 pub functions::run_named-run_function-requires : goal.functions::run_named-run_function-requires
 functions::run_named-run_function-requires t c =
-    let program = tree_of c.args.frame.now.scope.functions.now in
+    let program = program_of c.args.frame.now.scope.functions in
     let f = function_of c.in-Some.function.now in
     let found : function_named program c.args.name.now ≡ Some f = sym c.in-Some.ensures in
     let test : FunctionTree → Bool = λ f. bytes_eq c.args.name.now f.name in

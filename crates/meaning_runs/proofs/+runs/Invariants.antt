@@ -1,7 +1,8 @@
 use Rattle.std.proofs.Common.{◌≡◌, ◌≤◌, ◌+◌, ◌*◌, ◌++◌, drop, map, option_map}
 use Rattle.std.specs.Int.{int_gap}
 use Rattle.kern_syntax.specs.Tree.{no_else, no_more}
-use Rattle.kern_syntax.specs.TreeOf.{argument_of, arguments_of, assign_to, augment_of, block_of, branches_of, elif_of, else_of, expression_of, handlers_of, lines_of, statement_of, tree_of}
+use Rattle.kern_syntax.specs.TreeOf.{argument_of, arguments_of, assign_to, augment_of, block_of, branches_of, elif_of, else_of, expression_of, handlers_of, lines_of, statement_of}
+use Rattle.kern_names.specs.ScopeOf.{program_of}
 use Rattle.meaning_runs.specs.Frames.{calls_in, scope_in}
 use Rattle.meaning_steps.specs.Runnable.{AreRunnable}
 use Rattle.meaning_steps.specs.RunnableStatements.{AreRunnableHandlers, EachRunnable, IsRunnableBlock, IsRunnableOtherwise}
@@ -12,79 +13,79 @@ use Rattle.meaning_runs.proofs.Sizes.{arguments_size, block_size, expression_siz
 use Rattle.meaning_runs.proofs.+runs.Given as goal
 
 abbrev pub decreases-expressions::evaluate : goal.decreases-expressions::evaluate
-decreases-expressions::evaluate l = l.frame.now.room * program_size (tree_of l.frame.now.scope.functions.now) + expression_size (expression_of l.e.now)
+decreases-expressions::evaluate l = l.frame.now.room * program_size (program_of l.frame.now.scope.functions) + expression_size (expression_of l.e.now)
 
 abbrev pub decreases-expressions::evaluate_all : goal.decreases-expressions::evaluate_all
-decreases-expressions::evaluate_all l = l.frame.now.room * program_size (tree_of l.frame.now.scope.functions.now) + (arguments_size (arguments_of l.given.now) + 2)
+decreases-expressions::evaluate_all l = l.frame.now.room * program_size (program_of l.frame.now.scope.functions) + (arguments_size (arguments_of l.given.now) + 2)
 
 abbrev pub decreases-expressions::evaluate_argument : goal.decreases-expressions::evaluate_argument
-decreases-expressions::evaluate_argument l = l.frame.now.room * program_size (tree_of l.frame.now.scope.functions.now) + (arguments_size (argument_of l.argument.now no_more) + 1)
+decreases-expressions::evaluate_argument l = l.frame.now.room * program_size (program_of l.frame.now.scope.functions) + (arguments_size (argument_of l.argument.now no_more) + 1)
 
 abbrev pub decreases-functions::perform_call : goal.decreases-functions::perform_call
-decreases-functions::perform_call l = l.frame.now.room * program_size (tree_of l.frame.now.scope.functions.now) + 1
+decreases-functions::perform_call l = l.frame.now.room * program_size (program_of l.frame.now.scope.functions) + 1
 
 abbrev pub decreases-functions::run_named : goal.decreases-functions::run_named
-decreases-functions::run_named l = l.frame.now.room * program_size (tree_of l.frame.now.scope.functions.now)
+decreases-functions::run_named l = l.frame.now.room * program_size (program_of l.frame.now.scope.functions)
 
 abbrev pub decreases-functions::run_function : goal.decreases-functions::run_function
-decreases-functions::run_function l = l.room * program_size (tree_of l.functions.now) + (block_size (block_of l.function.now.body) + 1)
+decreases-functions::run_function l = l.room * program_size (program_of l.functions.now) + (block_size (block_of l.function.now.body) + 1)
 
 abbrev pub decreases-blocks::run_block : goal.decreases-blocks::run_block
-decreases-blocks::run_block l = l.frame.now.room * program_size (tree_of l.frame.now.scope.functions.now) + block_size (block_of l.body.now)
+decreases-blocks::run_block l = l.frame.now.room * program_size (program_of l.frame.now.scope.functions) + block_size (block_of l.body.now)
 
 abbrev pub decreases-blocks::run_statement : goal.decreases-blocks::run_statement
-decreases-blocks::run_statement l = l.frame.now.room * program_size (tree_of l.frame.now.scope.functions.now) + (statement_size (statement_of l.form.now) + 4)
+decreases-blocks::run_statement l = l.frame.now.room * program_size (program_of l.frame.now.scope.functions) + (statement_size (statement_of l.form.now) + 4)
 
 abbrev pub decreases-blocks::run_branch : goal.decreases-blocks::run_branch
-decreases-blocks::run_branch l = l.frame.now.room * program_size (tree_of l.frame.now.scope.functions.now) + (otherwise_size (elif_of l.branch.now no_else) + 1)
+decreases-blocks::run_branch l = l.frame.now.room * program_size (program_of l.frame.now.scope.functions) + (otherwise_size (elif_of l.branch.now no_else) + 1)
 
 abbrev pub decreases-blocks::run_else : goal.decreases-blocks::run_else
-decreases-blocks::run_else l = l.frame.now.room * program_size (tree_of l.frame.now.scope.functions.now) + (otherwise_size (else_of (option_map block_of l.last.now)) + 1)
+decreases-blocks::run_else l = l.frame.now.room * program_size (program_of l.frame.now.scope.functions) + (otherwise_size (else_of (option_map block_of l.last.now)) + 1)
 
 abbrev pub decreases-simple::give_back : goal.decreases-simple::give_back
-decreases-simple::give_back l = l.frame.now.room * program_size (tree_of l.frame.now.scope.functions.now) + (optional_size (option_map expression_of l.value.now) + 1)
+decreases-simple::give_back l = l.frame.now.room * program_size (program_of l.frame.now.scope.functions) + (optional_size (option_map expression_of l.value.now) + 1)
 
 abbrev pub decreases-simple::assign : goal.decreases-simple::assign
-decreases-simple::assign l = l.frame.now.room * program_size (tree_of l.frame.now.scope.functions.now) + (statement_size (assign_to l.target.now (expression_of l.e.now)) + 1)
+decreases-simple::assign l = l.frame.now.room * program_size (program_of l.frame.now.scope.functions) + (statement_size (assign_to l.target.now (expression_of l.e.now)) + 1)
 
 abbrev pub decreases-simple::augment : goal.decreases-simple::augment
-decreases-simple::augment l = l.frame.now.room * program_size (tree_of l.frame.now.scope.functions.now) + (statement_size (augment_of l.target.now l.operator (expression_of l.e.now)) + 2)
+decreases-simple::augment l = l.frame.now.room * program_size (program_of l.frame.now.scope.functions) + (statement_size (augment_of l.target.now l.operator (expression_of l.e.now)) + 2)
 
 abbrev pub decreases-simple::augment_name : goal.decreases-simple::augment_name
-decreases-simple::augment_name l = l.frame.now.room * program_size (tree_of l.frame.now.scope.functions.now) + (expression_size (expression_of l.e.now) + 1)
+decreases-simple::augment_name l = l.frame.now.room * program_size (program_of l.frame.now.scope.functions) + (expression_size (expression_of l.e.now) + 1)
 
 abbrev pub decreases-simple::augment_element : goal.decreases-simple::augment_element
-decreases-simple::augment_element l = l.frame.now.room * program_size (tree_of l.frame.now.scope.functions.now) + (expression_size (expression_of l.index.now) + (expression_size (expression_of l.e.now) + 1))
+decreases-simple::augment_element l = l.frame.now.room * program_size (program_of l.frame.now.scope.functions) + (expression_size (expression_of l.index.now) + (expression_size (expression_of l.e.now) + 1))
 
 abbrev pub decreases-simple::assign_repeated : goal.decreases-simple::assign_repeated
-decreases-simple::assign_repeated l = l.frame.now.room * program_size (tree_of l.frame.now.scope.functions.now) + (expression_size (expression_of l.e.now) + 1)
+decreases-simple::assign_repeated l = l.frame.now.room * program_size (program_of l.frame.now.scope.functions) + (expression_size (expression_of l.e.now) + 1)
 
 abbrev pub decreases-simple::assign_list : goal.decreases-simple::assign_list
-decreases-simple::assign_list l = l.frame.now.room * program_size (tree_of l.frame.now.scope.functions.now) + (expressions_size (map expression_of l.elements.now) + 2)
+decreases-simple::assign_list l = l.frame.now.room * program_size (program_of l.frame.now.scope.functions) + (expressions_size (map expression_of l.elements.now) + 2)
 
 abbrev pub decreases-simple::evaluate_each : goal.decreases-simple::evaluate_each
-decreases-simple::evaluate_each l = l.frame.now.room * program_size (tree_of l.frame.now.scope.functions.now) + (expressions_size (map expression_of l.elements.now) + 1)
+decreases-simple::evaluate_each l = l.frame.now.room * program_size (program_of l.frame.now.scope.functions) + (expressions_size (map expression_of l.elements.now) + 1)
 
 abbrev pub decreases-loops::run_while : goal.decreases-loops::run_while
-decreases-loops::run_while l = l.frame.now.room * program_size (tree_of l.frame.now.scope.functions.now) + (expression_size (expression_of l.condition.now) + (block_size (block_of l.body.now) + 2))
+decreases-loops::run_while l = l.frame.now.room * program_size (program_of l.frame.now.scope.functions) + (expression_size (expression_of l.condition.now) + (block_size (block_of l.body.now) + 2))
 
 abbrev pub decreases-loops::run_turn : goal.decreases-loops::run_turn
-decreases-loops::run_turn l = l.frame.now.room * program_size (tree_of l.frame.now.scope.functions.now) + (block_size (block_of l.body.now) + 1)
+decreases-loops::run_turn l = l.frame.now.room * program_size (program_of l.frame.now.scope.functions) + (block_size (block_of l.body.now) + 1)
 
 abbrev pub decreases-loops::run_for : goal.decreases-loops::run_for
-decreases-loops::run_for l = l.frame.now.room * program_size (tree_of l.frame.now.scope.functions.now) + (block_size (block_of l.body.now) + 2)
+decreases-loops::run_for l = l.frame.now.room * program_size (program_of l.frame.now.scope.functions) + (block_size (block_of l.body.now) + 2)
 
 abbrev pub decreases-loops::run_for_turn : goal.decreases-loops::run_for_turn
-decreases-loops::run_for_turn l = l.frame.now.room * program_size (tree_of l.frame.now.scope.functions.now) + (block_size (block_of l.body.now) + 1)
+decreases-loops::run_for_turn l = l.frame.now.room * program_size (program_of l.frame.now.scope.functions) + (block_size (block_of l.body.now) + 1)
 
 abbrev pub decreases-timed::run_parallel : goal.decreases-timed::run_parallel
-decreases-timed::run_parallel l = l.frame.now.room * program_size (tree_of l.frame.now.scope.functions.now) + (block_size (block_of l.body.now) + 1)
+decreases-timed::run_parallel l = l.frame.now.room * program_size (program_of l.frame.now.scope.functions) + (block_size (block_of l.body.now) + 1)
 
 abbrev pub decreases-timed::run_recorded : goal.decreases-timed::run_recorded
-decreases-timed::run_recorded l = l.frame.now.room * program_size (tree_of l.frame.now.scope.functions.now) + (block_size (block_of l.body.now) + 1)
+decreases-timed::run_recorded l = l.frame.now.room * program_size (program_of l.frame.now.scope.functions) + (block_size (block_of l.body.now) + 1)
 
 abbrev pub decreases-timed::handle : goal.decreases-timed::handle
-decreases-timed::handle l = l.frame.now.room * program_size (tree_of l.frame.now.scope.functions.now) + (handlers_size (handlers_of l.handlers.now) + 1)
+decreases-timed::handle l = l.frame.now.room * program_size (program_of l.frame.now.scope.functions) + (handlers_size (handlers_of l.handlers.now) + 1)
 
 abbrev pub invariant-expressions::evaluate_all-loop-argument : goal.invariant-expressions::evaluate_all-loop-argument
 invariant-expressions::evaluate_all-loop-argument l =

@@ -1,6 +1,8 @@
-use Rattle.std.proofs.Common.{◌≡◌, ◌≤◌, ◌<◌, ◌^◌, length, sym, subst, ◌∙◌, arith}
+use Rattle.std.proofs.Common.{◌≡◌, List, ◌≤◌, ◌<◌, ◌^◌, length, sym, subst, ◌∙◌, arith}
 use Rattle.std.proofs.lemmas.List.{length-map}
+use Rattle.kern_syntax.specs.declared.program.Function.{Function}
 use Rattle.kern_syntax.specs.TreeOf.{function_of, tree_of}
+use Rattle.kern_types.specs.Checked.{IsChecked}
 use Rattle.code_forms.specs.Texts.{texts_of}
 use Rattle.code_ranges.proofs.Functions.{few_functions}
 use Rattle.core_code.specs.Ready.{AreReadyFrom}
@@ -8,16 +10,25 @@ use Rattle.core_code.proofs.Put.{ready_from_zero}
 use Rattle.core_code.proofs.compiling.code_of.Goals as goal
 
 pub invariant_of-program : goal.invariant_of-program
-invariant_of-program c =
-    let functions = c.functions-functions.result.now in
-    let same : functions ≡ c.args.checked.now = c.functions-functions.ensures ∙ c.program.ensures.kept in
-    let all : length (tree_of functions) ≤ 256 = subst (λ fs. length (tree_of fs) ≤ 256) (sym same) (few_functions (tree_of c.args.checked.now) c.requires.checked) in
-    let trees : length (tree_of functions) ≡ length functions = length-map functions function_of in
-    let few : length functions < 2 ^ 16 = omega (arith, all, trees) in
-    record { few = few; numbered = c.in_ok-numbers.ensures }
+invariant_of-program c = record { numbered = c.in_ok-numbers.ensures }
 
-pub put_functions-requires : goal.put_functions-requires
-put_functions-requires c =
+-- a checked program has few functions
+few : (functions checked : List Function) → functions ≡ checked → IsChecked (tree_of checked) → length functions < 2 ^ 16
+few functions checked same is =
+    let all : length (tree_of functions) ≤ 256 = subst (λ fs. length (tree_of fs) ≤ 256) (sym same) (few_functions (tree_of checked) is) in
+    let trees : length (tree_of functions) ≡ length functions = length-map functions function_of in
+    omega (arith, all, trees)
+
+pub put_functions-requires-clause-few : goal.put_functions-requires-clause-few
+put_functions-requires-clause-few c =
+    few c.functions-functions.result.now c.args.checked.now (c.functions-functions.ensures ∙ c.program.ensures.kept) c.requires.checked
+
+pub main_of-requires : goal.main_of-requires
+main_of-requires c =
+    few c.functions-functions.result.now c.args.checked.now (c.functions-functions.ensures ∙ c.program.ensures.kept) c.requires.checked
+
+pub put_functions-requires-clause-ready : goal.put_functions-requires-clause-ready
+put_functions-requires-clause-ready c =
     let functions = c.functions-functions.result.now in
     let checked = c.args.checked.now in
     let same : functions ≡ checked = c.functions-functions.ensures ∙ c.program.ensures.kept in

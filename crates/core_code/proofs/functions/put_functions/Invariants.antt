@@ -1,6 +1,6 @@
 use Rattle.std.proofs.Common.{drop}
 use Rattle.kern_syntax.specs.TreeOf.{tree_of}
-use Rattle.core_code_names.specs.SettingOf.{program_of}
+use Rattle.kern_names.specs.ScopeOf.{program_of}
 use Rattle.core_code.proofs.Put.{IsPut}
 use Rattle.core_code.proofs.functions.put_functions.Given as goal
 

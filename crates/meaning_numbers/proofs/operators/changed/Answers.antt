@@ -4,13 +4,12 @@ use Rattle.std.specs.Int.{int_wrap, int_wrapping_neg, w64}
 use Rattle.std.proofs.lemmas.Int.{to_z-of_z, wrapping_neg_is}
 use Rattle.kern_calls.specs.Types.{width_of}
 use Rattle.timeline_sem.specs.Numbers.{unary_result}
-use Rattle.meaning_numbers.specs.Kinds.{type_of_kind}
 use Rattle.meaning_numbers.proofs.Again.{wraps_at}
 use Rattle.meaning_numbers.proofs.operators.changed.Goals as goal
 
 pub returns-in-Negate : goal.returns-in-Negate
 returns-in-Negate c =
-    let t = type_of_kind c.args.kind in
+    let t = c.args.kind in
     let negated : c.wrapping_neg.result ≡ int_wrap w64 (neg_ℤ c.args.a) =
     c.wrapping_neg.ensures
     ∙ ap (int_wrapping_neg w64) (to_z-of_z w64 c.args.a c.ranges.a)

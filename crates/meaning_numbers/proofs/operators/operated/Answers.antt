@@ -3,13 +3,12 @@ use Rattle.std.specs.Int.{int_wrap, w64}
 use Rattle.std.proofs.lemmas.Int.{to_z-of_z}
 use Rattle.kern_calls.specs.Types.{bits_of, width_of}
 use Rattle.timeline_sem.specs.Numbers.{exact_result}
-use Rattle.meaning_numbers.specs.Kinds.{type_of_kind}
 use Rattle.meaning_numbers.proofs.Again.{wraps_again}
 use Rattle.meaning_numbers.proofs.operators.operated.Goals as goal
 
 pub returns-in-Some : goal.returns-in-Some
 returns-in-Some c =
-    let t = type_of_kind c.args.kind in
+    let t = c.args.kind in
     let v = c.in-Some.whole in
     let fits : FitsSigned w64 v = search rules in
     let wrapped : FitsSigned w64 c.wrapped.result = search rules in

@@ -3,7 +3,7 @@ use Rattle.std.specs.Prelude.{pos}
 use Rattle.std.specs.Int.{w64}
 use Rattle.std.proofs.lemmas.Int.{to_z-of_z}
 use Rattle.kern_syntax.specs.TreeOf.{arguments_of}
-use Rattle.meaning_names.specs.ScopeOf.{scope_of}
+use Rattle.kern_names.specs.ScopeOf.{scope_of}
 use Rattle.timeline_sem.specs.Actions.{normal}
 use Rattle.timeline_sem.specs.Expressions.{list_in_value, value_of}
 use Rattle.meaning_steps.proofs.Datasets.{length_given, no_length}

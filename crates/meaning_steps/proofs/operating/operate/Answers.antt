@@ -3,13 +3,12 @@ use Rattle.std.specs.Int.{w64, int_wrap}
 use Rattle.std.proofs.lemmas.Int.{to_z-of_z}
 use Rattle.kern_calls.specs.Types.{bits_of, width_of}
 use Rattle.timeline_sem.specs.Numbers.{exact_result}
-use Rattle.meaning_numbers.specs.Kinds.{type_of_kind}
 use Rattle.meaning_steps.proofs.Results.{operate_some, operate_none}
 use Rattle.meaning_steps.proofs.operating.operate.Goals as goal
 
 pub returns-in-Some : goal.returns-in-Some
 returns-in-Some c =
-    let t = type_of_kind c.args.kind in
+    let t = c.args.kind in
     λ s.
     operate_some c.args.operator t c.args.a c.args.b _ s
     (ap Some (to_z-of_z w64 c.in-Some.number (search rules))
@@ -18,7 +17,7 @@ returns-in-Some c =
 
 pub returns-in-None : goal.returns-in-None
 returns-in-None c =
-    let t = type_of_kind c.args.kind in
+    let t = c.args.kind in
     λ s.
     operate_none c.args.operator t c.args.a c.args.b s
     (c.in-None.ensures

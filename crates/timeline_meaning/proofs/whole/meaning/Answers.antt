@@ -8,6 +8,9 @@ use Rattle.timeline_sem.specs.Programs.{Meaning, meaning, opening}
 use Rattle.timeline_meaning.proofs.First.{first_runs, gives_meaning}
 use Rattle.timeline_meaning.proofs.whole.meaning.Goals as goal
 
+pub invariant_of-program : goal.invariant_of-program
+invariant_of-program c = record { numbered = c.in_ok-numbers.ensures }
+
 pub run_first-requires-clause-functions : goal.run_first-requires-clause-functions
 run_first-requires-clause-functions c =
     subst (λ functions. AreRunnableFunctions (tree_of functions)) (sym c.functions-functions.ensures) (typed_can_run (tree_of c.program.result.now) c.program.ensures.spellable c.program.ensures.typed)

@@ -1,6 +1,6 @@
 use Rattle.std.proofs.Common.{◌<◌, ◌^◌, ◌∙◌, arith}
 use Rattle.code_forms.specs.Setting.{slot_in}
-use Rattle.core_code_names.proofs.LaidOut.{capped_same, slot_within}
+use Rattle.core_code_names.proofs.Firsts.{capped_same, slot_within}
 use Rattle.core_code_names.proofs.setting.Setting.slot.Goals as goal
 
 pub returns : goal.returns

@@ -1,5 +1,5 @@
 use Rattle.std.proofs.Common.{ap, ◌∙◌, position, bytes_eq}
-use Rattle.core_code_names.proofs.Positions.{position_map}
+use Rattle.kern_names.proofs.Positions.{position_map}
 use Rattle.core_code_names.proofs.texts.Texts.place.Goals as goal
 
 pub returns : goal.returns

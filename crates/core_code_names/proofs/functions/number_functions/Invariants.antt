@@ -1,6 +1,0 @@
-use Rattle.std.proofs.Common.{drop}
-use Rattle.core_code_names.proofs.Numbers.{AreNumbered}
-use Rattle.core_code_names.proofs.functions.number_functions.Given as goal
-
-abbrev pub invariant-loop-number : goal.invariant-loop-number
-invariant-loop-number l = AreNumbered l.fn.functions (drop l.number l.fn.functions) l.numbers l.number
