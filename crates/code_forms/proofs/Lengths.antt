@@ -13,7 +13,7 @@ use Rattle.core_isa.specs.declared.instr.Instr.{Instr}
 use Rattle.core_isa.specs.declared.instr.Instr.TheVariants as I
 use Rattle.code_forms.specs.ExpressionCode.{expression_code, arguments_code, unary_lines, call_lines, method_lines, filled, numbers_in}
 use Rattle.code_forms.specs.Lines.{line, raised, straight, mark_after}
-use Rattle.code_forms.specs.Operations.{operator_instrs, unary_instrs, literal, negated, comparison_instrs, not_instrs, call_instrs, call_has_value, takes_numbers, array_argument, method_instrs, method_has_value}
+use Rattle.code_forms.specs.Operations.{operator_instrs, unary_instrs, literal, negated, comparison_instrs, not_instrs, call_instrs, call_has_value, takes_numbers, array_argument, method_instrs, method_has_value, wrapped_type}
 use Rattle.code_forms.specs.Setting.{Setting, slot_of, length_of}
 use Rattle.code_forms.specs.Sizes.{expression_size, arguments_size, unary_size, unless}
 
@@ -76,7 +76,7 @@ module _ (setting : Setting) (free : ℕ) where
     length-expression mark place (unary op e) =
         unary-length mark (negated op (literal e)) (expression_code setting free mark place e) (unary_instrs op (type_of setting.scope e)) (expression_size setting e) (length-expression mark place e)
     length-expression mark place (binary op a b) =
-        two-operands (expression_code setting free mark place a) (expression_code setting free (raised 1 mark) (place + expression_size setting a) b) (raised 2 mark) (operator_instrs op (type_of setting.scope (binary op a b))) (expression_size setting a) (expression_size setting b) (length-expression mark place a) (length-expression (raised 1 mark) (place + expression_size setting a) b)
+        two-operands (expression_code setting free mark place a) (expression_code setting free (raised 1 mark) (place + expression_size setting a) b) (raised 2 mark) (operator_instrs op (wrapped_type op (literal b) (type_of setting.scope (binary op a b)))) (expression_size setting a) (expression_size setting b) (length-expression mark place a) (length-expression (raised 1 mark) (place + expression_size setting a) b)
     length-expression mark place (compare op a b) =
         two-operands (expression_code setting free mark place a) (expression_code setting free (raised 1 mark) (place + expression_size setting a) b) (raised 2 mark) (comparison_instrs op) (expression_size setting a) (expression_size setting b) (length-expression mark place a) (length-expression (raised 1 mark) (place + expression_size setting a) b)
     length-expression mark place (negation e) =

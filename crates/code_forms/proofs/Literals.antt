@@ -7,7 +7,7 @@ use Rattle.kern_syntax.specs.declared.expression.UnaryOperator.TheVariants as U
 use Rattle.kern_syntax.specs.Tree.{Expression, integer, true_literal, false_literal, variable, element, group, unary, binary, compare, negation, conjunction, disjunction, call, method}
 use Rattle.code_forms.specs.Operations.{literal, negated}
 
-literal_is : (e : Expression) (n : ℕ) → literal e ≡ Some n → e ≡ integer n
+pub literal_is : (e : Expression) (n : ℕ) → literal e ≡ Some n → e ≡ integer n
 literal_is (integer m) n is = ap (λ o. integer (unwrap_or o m)) is
 literal_is true_literal n is = absurd (false≢true (ap is_some is))
 literal_is false_literal n is = absurd (false≢true (ap is_some is))

@@ -13,6 +13,7 @@ use Rattle.core_isa.specs.declared.code.Mark.{Mark}
 use Rattle.core_isa.specs.declared.instr.Instr.{Instr}
 use Rattle.core_isa.specs.declared.instr.Instr.TheVariants as I
 use Rattle.core_isa.specs.Marks.{first_mark}
+use Rattle.code_forms.specs.declared.test_kind.TestKind.TheVariants.{Branch, LoopEnd}
 use Rattle.code_forms.specs.Conditions.{is_turned, asked, test_instrs, test_size, loop_instrs, loop_size}
 use Rattle.code_forms.specs.ExpressionCode.{expression_code, arguments_code, call_code, method_code, effect_code, dropped, numbers_in}
 use Rattle.code_forms.specs.Laws.{HasItsSize, FunctionsHaveTheirSize}
@@ -168,14 +169,14 @@ module _ (setting : Setting) where
     length-statement inside place (assign_list x es) =
         two _ _ (length-stored inside place es) (length-straight inside.mark (moved (length es) inside.free (slot_of setting x)) ∙ length-moved (length es) inside.free (slot_of setting x))
     length-statement inside place (if_then c b rest) =
-        length-branch inside.mark _ _ _ _ _ (length-value inside place (asked c)) (length-test (raised 1 inside.mark) (is_turned c) _ _) (length-block inside (then_place setting place c) b) (length-exit inside.mark rest (end_place setting inside place c b rest)) (length-otherwise inside (else_place setting inside place c b rest) rest)
+        length-branch inside.mark _ _ _ _ _ (length-value inside place (asked Branch c)) (length-test (raised 1 inside.mark) (is_turned Branch c) _ _) (length-block inside (then_place setting place c) b) (length-exit inside.mark rest (end_place setting inside place c b rest)) (length-otherwise inside (else_place setting inside place c b rest) rest)
     length-statement inside place (while_do c b) =
         let again = place + 2 + block_size setting inside.mark.tries inside.mark.tries b in
-        let past = again + expression_size setting (asked c) + loop_size (is_turned c) in
+        let past = again + expression_size setting (asked LoopEnd c) + loop_size (is_turned LoopEnd c) in
         let body = block_code setting (in_loop again past inside) (place + 2) b in
-        let condition = value_code setting inside again (asked c) in
-        let ends = straight (raised 1 inside.mark) (loop_instrs (is_turned c) (place + 1) past) in
-        three (line inside.mark (I.Jump again) ∷ line inside.mark I.Turn ∷ body) condition ends (ap (λ k. suc (suc k)) (length-block (in_loop again past inside) (place + 2) b)) (length-value inside again (asked c)) (length-loop (raised 1 inside.mark) (is_turned c) (place + 1) past) ∙ omega arith
+        let condition = value_code setting inside again (asked LoopEnd c) in
+        let ends = straight (raised 1 inside.mark) (loop_instrs (is_turned LoopEnd c) (place + 1) past) in
+        three (line inside.mark (I.Jump again) ∷ line inside.mark I.Turn ∷ body) condition ends (ap (λ k. suc (suc k)) (length-block (in_loop again past inside) (place + 2) b)) (length-value inside again (asked LoopEnd c)) (length-loop (raised 1 inside.mark) (is_turned LoopEnd c) (place + 1) past) ∙ omega arith
     length-statement inside place (for_range x from to b) =
         let first = turns_place setting place from to in
         let again = first + 10 + block_size setting inside.mark.tries inside.mark.tries b in
@@ -211,7 +212,7 @@ module _ (setting : Setting) where
     length-otherwise inside place no_else = refl
     length-otherwise inside place (else_do b) = length-block inside place b
     length-otherwise inside place (elif_then l c b rest) =
-        length-branch inside.mark _ _ _ _ _ (length-value inside place (asked c)) (length-test (raised 1 inside.mark) (is_turned c) _ _) (length-block inside (then_place setting place c) b) (length-exit inside.mark rest (end_place setting inside place c b rest)) (length-otherwise inside (else_place setting inside place c b rest) rest)
+        length-branch inside.mark _ _ _ _ _ (length-value inside place (asked Branch c)) (length-test (raised 1 inside.mark) (is_turned Branch c) _ _) (length-block inside (then_place setting place c) b) (length-exit inside.mark rest (end_place setting inside place c b rest)) (length-otherwise inside (else_place setting inside place c b rest) rest)
 
     pub length-handlers : (inside : Inside) (place end : ℕ) (handlers : Handlers) → length (handlers_code setting inside place end handlers) ≡ handlers_size setting inside.mark.tries inside.loop.tries handlers
     length-handlers inside place end no_handler = refl

@@ -5,30 +5,46 @@ use Rattle.kern_syntax.specs.declared.expression.Comparison.TheVariants as C
 use Rattle.kern_syntax.specs.Tree.{Expression, compare, negation}
 use Rattle.core_isa.specs.declared.instr.Instr.{Instr}
 use Rattle.core_isa.specs.declared.instr.Instr.TheVariants as I
+use Rattle.code_forms.specs.declared.test_kind.TestKind.{TestKind}
+use Rattle.code_forms.specs.declared.test_kind.TestKind.TheVariants.{Branch, LoopEnd}
 
--- the comparisons that have no instruction of their own, though their opposites have
-abbrev pub lacks_instr : Comparison → Bool
-lacks_instr C.Greater = true
-lacks_instr C.GreaterEqual = true
-lacks_instr op = false
+-- the test is at the end of a loop
+abbrev pub ends_loop : TestKind → Bool
+ends_loop Branch = false
+ends_loop LoopEnd = true
 
--- those opposites
-abbrev pub one_instr : Comparison → Comparison
-one_instr C.Greater = C.LessEqual
-one_instr C.GreaterEqual = C.Less
-one_instr op = op
+-- whether a comparison's opposite is asked: that of `>` and `>=`, which have no instruction of their own though their opposites
+-- have one; and at the end of a loop, where the test of an opposite is shorter, that of `==` and `!=`
+abbrev pub is_opposed : Comparison → TestKind → Bool
+is_opposed C.Equal test = ends_loop test
+is_opposed C.NotEqual test = ends_loop test
+is_opposed C.Less test = false
+is_opposed C.LessEqual test = false
+is_opposed C.Greater test = true
+is_opposed C.GreaterEqual test = true
+
+-- what is asked for a comparison: it or its opposite
+abbrev pub asked_comparison : Comparison → TestKind → Comparison
+asked_comparison C.Equal Branch = C.Equal
+asked_comparison C.Equal LoopEnd = C.NotEqual
+asked_comparison C.NotEqual Branch = C.NotEqual
+asked_comparison C.NotEqual LoopEnd = C.Equal
+asked_comparison C.Less test = C.Less
+asked_comparison C.LessEqual test = C.LessEqual
+asked_comparison C.Greater test = C.LessEqual
+asked_comparison C.GreaterEqual test = C.Less
 
 -- whether a condition's opposite is asked
-abbrev pub is_turned : Expression → Bool
-is_turned (negation e) = true
-is_turned (compare op a b) = lacks_instr op
-is_turned e = false
+abbrev pub is_turned : TestKind → Expression → Bool
+is_turned test (negation e) = true
+is_turned test (compare op a b) = is_opposed op test
+is_turned test e = false
 
 -- what is asked for a condition
-abbrev pub asked : Expression → Expression
-asked (negation e) = e
-asked (compare op a b) = compare (one_instr op) a b
-asked e = e
+abbrev pub asked : TestKind → Expression → Expression
+asked test (negation e) = e
+asked test (compare op a b) = compare (asked_comparison op test) a b
+asked test e = e
 
 -- at a place, with the answer on the operands: goes on behind these where the condition holds, and elsewhere where it doesn't
 abbrev pub test_instrs : (turned : Bool) → (place elsewhere : ℕ) → List Instr

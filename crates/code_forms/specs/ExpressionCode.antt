@@ -9,7 +9,7 @@ use Rattle.core_isa.specs.declared.code.Mark.{Mark}
 use Rattle.core_isa.specs.declared.instr.Instr.{Instr}
 use Rattle.core_isa.specs.declared.instr.Instr.TheVariants as I
 use Rattle.code_forms.specs.Lines.{line, raised, straight}
-use Rattle.code_forms.specs.Operations.{operator_instrs, unary_instrs, literal, negated, comparison_instrs, not_instrs, load_instr, call_instrs, call_has_value, takes_numbers, array_argument, method_instrs, method_has_value}
+use Rattle.code_forms.specs.Operations.{operator_instrs, unary_instrs, literal, negated, comparison_instrs, not_instrs, load_instr, call_instrs, call_has_value, takes_numbers, array_argument, method_instrs, method_has_value, wrapped_type}
 use Rattle.code_forms.specs.Setting.{Setting, slot_of, length_of}
 use Rattle.code_forms.specs.Sizes.{expression_size, arguments_size}
 
@@ -68,7 +68,7 @@ module _ (setting : Setting) (free : ℕ) where
     expression_code mark place (binary op a b) =
         expression_code mark place a
         ++ expression_code (raised 1 mark) (place + expression_size setting a) b
-        ++ straight (raised 2 mark) (operator_instrs op (type_of setting.scope (binary op a b)))
+        ++ straight (raised 2 mark) (operator_instrs op (wrapped_type op (literal b) (type_of setting.scope (binary op a b))))
     expression_code mark place (compare op a b) =
         expression_code mark place a
         ++ expression_code (raised 1 mark) (place + expression_size setting a) b

@@ -5,9 +5,10 @@ use Rattle.kern_calls.specs.Calls.{builtin_named, method_named}
 use Rattle.kern_calls.specs.Types.{type_of}
 use Rattle.timeline_sem.specs.Expressions.{text_in}
 use Rattle.timeline_sem.specs.Statements.{operator_of}
+use Rattle.code_forms.specs.declared.test_kind.TestKind.TheVariants.{Branch, LoopEnd}
 use Rattle.code_forms.specs.Conditions.{is_turned, asked, test_size, loop_size}
 use Rattle.code_forms.specs.Setting.{Setting}
-use Rattle.code_forms.specs.Operations.{operator_instrs, unary_instrs, literal, negated, comparison_instrs, call_instrs, call_has_value, takes_numbers, array_argument, method_instrs, method_has_value}
+use Rattle.code_forms.specs.Operations.{operator_instrs, unary_instrs, literal, negated, comparison_instrs, call_instrs, call_has_value, takes_numbers, array_argument, method_instrs, method_has_value, wrapped_type}
 
 -- an instruction more where there is no value
 abbrev pub unless : Bool → ℕ
@@ -48,7 +49,7 @@ module _ (setting : Setting) where
         unary_size (negated op (literal e)) (expression_size e) (length (unary_instrs op (type_of setting.scope e)))
     expression_size (binary op a b) =
         expression_size a
-        + (expression_size b + length (operator_instrs op (type_of setting.scope (binary op a b))))
+        + (expression_size b + length (operator_instrs op (wrapped_type op (literal b) (type_of setting.scope (binary op a b)))))
     expression_size (compare op a b) = expression_size a + (expression_size b + length (comparison_instrs op))
     expression_size (negation e) = expression_size e + 2
     expression_size (conjunction a b) = expression_size a + (1 + (expression_size b + 2))
@@ -114,10 +115,10 @@ module _ (setting : Setting) where
     statement_size tries kept (assign_repeated x e n) = expression_size e + 1
     statement_size tries kept (assign_list x es) = stored_size es + 2 * length es
     statement_size tries kept (if_then c b rest) =
-        expression_size (asked c)
-        + (test_size (is_turned c) + (block_size tries kept b + (exit_size rest + otherwise_size tries kept rest)))
+        expression_size (asked Branch c)
+        + (test_size (is_turned Branch c) + (block_size tries kept b + (exit_size rest + otherwise_size tries kept rest)))
     statement_size tries kept (while_do c b) =
-        2 + (block_size tries tries b + (expression_size (asked c) + loop_size (is_turned c)))
+        2 + (block_size tries tries b + (expression_size (asked LoopEnd c) + loop_size (is_turned LoopEnd c)))
     statement_size tries kept (for_range x from to b) =
         from_size from + (expression_size to + (10 + (block_size tries tries b + 4)))
     statement_size tries kept (parallel b) = 4 + (parallel_size tries kept b + 2)
@@ -142,8 +143,8 @@ module _ (setting : Setting) where
     otherwise_size tries kept no_else = 0
     otherwise_size tries kept (else_do b) = block_size tries kept b
     otherwise_size tries kept (elif_then line c b rest) =
-        expression_size (asked c)
-        + (test_size (is_turned c) + (block_size tries kept b + (exit_size rest + otherwise_size tries kept rest)))
+        expression_size (asked Branch c)
+        + (test_size (is_turned Branch c) + (block_size tries kept b + (exit_size rest + otherwise_size tries kept rest)))
 
     -- of handlers
     pub handlers_size : (tries kept : ℕ) → Handlers → ℕ

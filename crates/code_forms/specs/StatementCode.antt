@@ -8,6 +8,7 @@ use Rattle.core_isa.specs.declared.code.CodeLine.{CodeLine}
 use Rattle.core_isa.specs.declared.code.Mark.{Mark}
 use Rattle.core_isa.specs.declared.instr.Instr.{Instr}
 use Rattle.core_isa.specs.declared.instr.Instr.TheVariants as I
+use Rattle.code_forms.specs.declared.test_kind.TestKind.TheVariants.{Branch, LoopEnd}
 use Rattle.code_forms.specs.Conditions.{is_turned, asked, test_instrs, test_size, loop_instrs, loop_size}
 use Rattle.code_forms.specs.ExpressionCode.{expression_code, effect_code}
 use Rattle.code_forms.specs.Lines.{line, raised, with_handler, with_recording, straight, end_tries}
@@ -95,10 +96,10 @@ branch_lines mark test condition body leave rest =
 
 -- where a branch tests its condition, where its body begins, where the branches that follow begin, and where they end
 abbrev pub test_place : Setting → (place : ℕ) → Expression → ℕ
-test_place setting place c = place + expression_size setting (asked c)
+test_place setting place c = place + expression_size setting (asked Branch c)
 
 abbrev pub then_place : Setting → (place : ℕ) → Expression → ℕ
-then_place setting place c = test_place setting place c + test_size (is_turned c)
+then_place setting place c = test_place setting place c + test_size (is_turned Branch c)
 
 abbrev pub else_place : Setting → Inside → (place : ℕ) → Expression → Block → Otherwise → ℕ
 else_place setting inside place c b rest =
@@ -200,8 +201,8 @@ module _ (setting : Setting) where
     statement_code inside place (if_then c b rest) =
         branch_lines
         inside.mark
-        (test_instrs (is_turned c) (test_place setting place c) (else_place setting inside place c b rest))
-        (value_code inside place (asked c))
+        (test_instrs (is_turned Branch c) (test_place setting place c) (else_place setting inside place c b rest))
+        (value_code inside place (asked Branch c))
         (block_code inside (then_place setting place c) b)
         (exit inside.mark rest (end_place setting inside place c b rest))
         (otherwise_code inside (else_place setting inside place c b rest) rest)
@@ -214,22 +215,22 @@ module _ (setting : Setting) where
         (place
         + 2
         + block_size setting inside.mark.tries inside.mark.tries b
-        + expression_size setting (asked c)
-        + loop_size (is_turned c))
+        + expression_size setting (asked LoopEnd c)
+        + loop_size (is_turned LoopEnd c))
         inside)
         (place + 2)
         b
-        ++ value_code inside (place + 2 + block_size setting inside.mark.tries inside.mark.tries b) (asked c)
+        ++ value_code inside (place + 2 + block_size setting inside.mark.tries inside.mark.tries b) (asked LoopEnd c)
         ++ straight
         (raised 1 inside.mark)
         (loop_instrs
-        (is_turned c)
+        (is_turned LoopEnd c)
         (place + 1)
         (place
         + 2
         + block_size setting inside.mark.tries inside.mark.tries b
-        + expression_size setting (asked c)
-        + loop_size (is_turned c)))
+        + expression_size setting (asked LoopEnd c)
+        + loop_size (is_turned LoopEnd c)))
     statement_code inside place (for_range x from to b) =
         from_code inside place from
         ++ second_code inside (place + from_size setting from) to
@@ -304,8 +305,8 @@ module _ (setting : Setting) where
     otherwise_code inside place (elif_then _ c b rest) =
         branch_lines
         inside.mark
-        (test_instrs (is_turned c) (test_place setting place c) (else_place setting inside place c b rest))
-        (value_code inside place (asked c))
+        (test_instrs (is_turned Branch c) (test_place setting place c) (else_place setting inside place c b rest))
+        (value_code inside place (asked Branch c))
         (block_code inside (then_place setting place c) b)
         (exit inside.mark rest (end_place setting inside place c b rest))
         (otherwise_code inside (else_place setting inside place c b rest) rest)

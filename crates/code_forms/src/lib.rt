@@ -2,5 +2,7 @@
 #![tactic(auto)]
 
 mod laws;
+mod test_kind;
 
 pub use laws::code_has_its_size;
+pub use test_kind::TestKind;

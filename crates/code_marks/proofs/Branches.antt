@@ -8,6 +8,7 @@ use Rattle.core_isa.specs.declared.code.CodeLine.{CodeLine}
 use Rattle.core_isa.specs.declared.code.Mark.{Mark}
 use Rattle.core_isa.specs.declared.instr.Instr.TheVariants as I
 use Rattle.core_isa.specs.Marks.{after}
+use Rattle.code_forms.specs.declared.test_kind.TestKind.TheVariants.{Branch}
 use Rattle.code_forms.specs.Conditions.{is_turned, asked, test_instrs, test_size}
 use Rattle.code_forms.specs.Lines.{raised, straight}
 use Rattle.code_forms.specs.Setting as C
@@ -39,10 +40,10 @@ module _ (code : Code) (k : ℕ) (f : CodeFunction) (cs : C.Setting) (inside : I
 
   module _ (c : Expression) (b : Block) (rest : Otherwise) (place : ℕ) where
     abbrev nc : ℕ
-    nc = expression_size cs (asked c)
+    nc = expression_size cs (asked Branch c)
 
     abbrev nt : ℕ
-    nt = test_size (is_turned c)
+    nt = test_size (is_turned Branch c)
 
     abbrev nb : ℕ
     nb = block_size cs mark.tries inside.loop.tries b
@@ -60,10 +61,10 @@ module _ (code : Code) (k : ℕ) (f : CodeFunction) (cs : C.Setting) (inside : I
     end = end_place cs inside place c b rest
 
     abbrev condition_lines : List CodeLine
-    condition_lines = value_code cs inside place (asked c)
+    condition_lines = value_code cs inside place (asked Branch c)
 
     abbrev test_lines : List CodeLine
-    test_lines = straight (raised 1 mark) (test_instrs (is_turned c) (test_place cs place c) else_at)
+    test_lines = straight (raised 1 mark) (test_instrs (is_turned Branch c) (test_place cs place c) else_at)
 
     abbrev body_lines : List CodeLine
     body_lines = block_code cs inside (then_place cs place c) b
@@ -74,17 +75,17 @@ module _ (code : Code) (k : ℕ) (f : CodeFunction) (cs : C.Setting) (inside : I
     abbrev rest_lines : List CodeLine
     rest_lines = otherwise_code cs inside else_at rest
 
-    pub branch_part : (StandIn code k place condition_lines → Part code k f place (place + nc) mark (raised 1 mark)) → (StandIn code k (then_place cs place c) body_lines → Part code k f (then_place cs place c) (then_place cs place c + nb) mark mark) → (StandIn code k else_at rest_lines → Part code k f else_at end mark mark) → StandIn code k place (branch_lines mark (test_instrs (is_turned c) (test_place cs place c) else_at) condition_lines body_lines leave_lines rest_lines) → Part code k f place (place + (nc + (nt + (nb + (nl + nr))))) mark mark
+    pub branch_part : (StandIn code k place condition_lines → Part code k f place (place + nc) mark (raised 1 mark)) → (StandIn code k (then_place cs place c) body_lines → Part code k f (then_place cs place c) (then_place cs place c + nb) mark mark) → (StandIn code k else_at rest_lines → Part code k f else_at end mark mark) → StandIn code k place (branch_lines mark (test_instrs (is_turned Branch c) (test_place cs place c) else_at) condition_lines body_lines leave_lines rest_lines) → Part code k f place (place + (nc + (nt + (nb + (nl + nr))))) mark mark
     branch_part condition body others s has =
-        let lc : length condition_lines ≡ nc = length-expression cs inside.free mark place (asked c) in
-        let lt : length (condition_lines ++ test_lines) ≡ nc + nt = omega (arith, length-append condition_lines test_lines, lc, length-test (raised 1 mark) (is_turned c) (test_place cs place c) else_at) in
+        let lc : length condition_lines ≡ nc = length-expression cs inside.free mark place (asked Branch c) in
+        let lt : length (condition_lines ++ test_lines) ≡ nc + nt = omega (arith, length-append condition_lines test_lines, lc, length-test (raised 1 mark) (is_turned Branch c) (test_place cs place c) else_at) in
         let lb : length (condition_lines ++ test_lines ++ body_lines) ≡ nc + nt + nb = omega (arith, length-append (condition_lines ++ test_lines) body_lines, lt, length-block cs inside (then_place cs place c) b) in
         let ll : length (condition_lines ++ test_lines ++ body_lines ++ leave_lines) ≡ nc + nt + nb + nl = omega (arith, length-append (condition_lines ++ test_lines ++ body_lines) leave_lines, lb, length-exit cs mark rest end) in
         let at_end : HasMark code k end mark = has_as code k (omega arith) refl has in
         let there : place + (nc + nt + nb + nl) ≡ else_at = omega arith in
         let s_rest = stand_as code k rest_lines there (second_lines code k place (nc + nt + nb + nl) (condition_lines ++ test_lines ++ body_lines ++ leave_lines) rest_lines ll s) in
         let at_else = (others s_rest at_end).0 in
-        let tested = in_turn code k f condition_lines test_lines lc refl condition (test_part (is_turned c) (test_place cs place c) else_at (omega arith) at_else) in
+        let tested = in_turn code k f condition_lines test_lines lc refl condition (test_part (is_turned Branch c) (test_place cs place c) else_at (omega arith) at_else) in
         let first = in_turn code k f (condition_lines ++ test_lines) body_lines lt (omega arith) tested body in
         let middle : StandIn code k place (condition_lines ++ test_lines ++ body_lines ++ leave_lines) → Part code k f place else_at mark mark = in_turn code k f (condition_lines ++ test_lines ++ body_lines) leave_lines lb (omega arith) first (exit_part rest end (then_place cs place c + nb) (omega arith) at_end) in
         part_to code k f (omega arith) refl (in_turn code k f (condition_lines ++ test_lines ++ body_lines ++ leave_lines) rest_lines ll there middle others s) has

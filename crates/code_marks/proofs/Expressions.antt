@@ -16,7 +16,7 @@ use Rattle.core_isa.specs.declared.instr.Instr.TheVariants as I
 use Rattle.core_isa.specs.Marks.{HasName, after}
 use Rattle.code_forms.specs.ExpressionCode.{numbers_in, filled, unary_lines, expression_code, arguments_code, call_code, method_code}
 use Rattle.code_forms.specs.Lines.{line, raised, straight}
-use Rattle.code_forms.specs.Operations.{unary_instrs, literal, negated, operator_instrs, comparison_instrs, not_instrs, load_instr, call_instrs, call_has_value, takes_numbers, array_argument, method_instrs, method_has_value}
+use Rattle.code_forms.specs.Operations.{unary_instrs, literal, negated, operator_instrs, comparison_instrs, not_instrs, load_instr, call_instrs, call_has_value, takes_numbers, array_argument, method_instrs, method_has_value, wrapped_type}
 use Rattle.code_forms.specs.Setting as C
 use Rattle.code_forms.specs.Setting.{slot_of, length_of, index_of_text}
 use Rattle.code_forms.specs.Sizes.{unless, unary_size, expression_size, arguments_size, call_size, method_size}
@@ -183,7 +183,7 @@ module _ (code : Code) (k : ℕ) (f : CodeFunction) (cs : C.Setting) (plain : Li
     expression_part (unary op e) r t mark o place s =
         unary_part op e (negated op (literal e)) place mark (expression_part e r t mark o place) s
     expression_part (binary op x y) r t mark o place s =
-        let t' = type_of cs.scope (binary op x y) in
+        let t' = wrapped_type op (literal y) (type_of cs.scope (binary op x y)) in
         let g = operates code k f op t' (place + expression_size cs x + expression_size cs y) (raised 2 mark) (omega arith) in
         two_operands x y place mark (raised 1 mark) (operator_instrs op t') (expression_part x r.0 (in_front cs (expression_texts x) (expression_texts y) t) mark o place) (expression_part y r.1 (in_back cs (expression_texts x) (expression_texts y) t) (raised 1 mark) o (place + expression_size cs x)) (g.0, g.1 ∙ same_mark _ _ (omega arith) refl refl) s
     expression_part (compare op x y) r t mark o place s =

@@ -8,6 +8,7 @@ use Rattle.core_isa.specs.declared.code.CodeLine.{CodeLine}
 use Rattle.core_isa.specs.declared.code.Mark.{Mark}
 use Rattle.core_isa.specs.declared.instr.Instr.TheVariants as I
 use Rattle.core_isa.specs.Marks.{after, takes_unit_first}
+use Rattle.code_forms.specs.declared.test_kind.TestKind.TheVariants.{LoopEnd}
 use Rattle.code_forms.specs.Conditions.{is_turned, asked, loop_instrs, loop_size}
 use Rattle.code_forms.specs.Lines.{line, raised, straight}
 use Rattle.code_forms.specs.Setting as C
@@ -37,10 +38,10 @@ module _ (code : Code) (k : ℕ) (f : CodeFunction) (cs : C.Setting) (inside : I
     nb = block_size cs mark.tries mark.tries b
 
     abbrev nc : ℕ
-    nc = expression_size cs (asked c)
+    nc = expression_size cs (asked LoopEnd c)
 
     abbrev ne : ℕ
-    ne = loop_size (is_turned c)
+    ne = loop_size (is_turned LoopEnd c)
 
     -- where the condition stands, and where the loop ends
     abbrev pub again : ℕ
@@ -52,14 +53,14 @@ module _ (code : Code) (k : ℕ) (f : CodeFunction) (cs : C.Setting) (inside : I
     abbrev pub while_body : List CodeLine
     while_body = block_code cs (in_loop again past inside) (place + 2) b
 
-    pub while_part : (StandIn code k again (value_code cs inside again (asked c)) → Part code k f again (again + nc) mark (raised 1 mark)) → (HasMark code k again mark → HasMark code k past mark → StandIn code k (place + 2) while_body → Part code k f (place + 2) (place + 2 + nb) mark mark) → StandIn code k place (statement_code cs inside place (while_do c b)) → Part code k f place (place + (2 + (nb + (nc + ne)))) mark mark
+    pub while_part : (StandIn code k again (value_code cs inside again (asked LoopEnd c)) → Part code k f again (again + nc) mark (raised 1 mark)) → (HasMark code k again mark → HasMark code k past mark → StandIn code k (place + 2) while_body → Part code k f (place + 2) (place + 2 + nb) mark mark) → StandIn code k place (statement_code cs inside place (while_do c b)) → Part code k f place (place + (2 + (nb + (nc + ne)))) mark mark
     while_part condition body s has =
         let j = line mark (I.Jump again) in
         let t = line mark I.Turn in
-        let v = value_code cs inside again (asked c) in
-        let ends = straight (raised 1 mark) (loop_instrs (is_turned c) (place + 1) past) in
+        let v = value_code cs inside again (asked LoopEnd c) in
+        let ends = straight (raised 1 mark) (loop_instrs (is_turned LoopEnd c) (place + 1) past) in
         let lb : length (j ∷ t ∷ while_body) ≡ 2 + nb = omega (arith, length-block cs (in_loop again past inside) (place + 2) b) in
-        let lc : length (j ∷ t ∷ while_body ++ v) ≡ 2 + nb + nc = omega (arith, length-append (j ∷ t ∷ while_body) v, lb, length-expression cs inside.free mark again (asked c)) in
+        let lc : length (j ∷ t ∷ while_body ++ v) ≡ 2 + nb + nc = omega (arith, length-append (j ∷ t ∷ while_body) v, lb, length-expression cs inside.free mark again (asked LoopEnd c)) in
         let front = first_lines code k place (j ∷ t ∷ while_body ++ v) ends s in
         let first = first_lines code k place (j ∷ t ∷ while_body) v front in
         let s_c = stand_as code k v (let same : place + (2 + nb) ≡ again = omega arith in same) (second_lines code k place (2 + nb) (j ∷ t ∷ while_body) v lb front) in
@@ -67,7 +68,7 @@ module _ (code : Code) (k : ℕ) (f : CodeFunction) (cs : C.Setting) (inside : I
         let s_b = stand_as code k while_body (let same : place + 1 + 1 ≡ place + 2 = omega arith in same) first.2.2 in
         let at_past : HasMark code k past mark = has_as code k (omega arith) refl has in
         let at_turn : HasMark code k (place + 1) mark = mark_of code k (place + 1) mark I.Turn first.2.0 first.2.1 in
-        let tail : Part code k f (again + nc) past (raised 1 mark) mark = loop_part (is_turned c) (again + nc) (place + 1) past refl (ap takes_unit_first first.2.0) at_turn at_past s_e in
+        let tail : Part code k f (again + nc) past (raised 1 mark) mark = loop_part (is_turned LoopEnd c) (again + nc) (place + 1) past refl (ap takes_unit_first first.2.0) at_turn at_past s_e in
         let loop : Part code k f again past mark mark = part_to code k f (omega arith) refl (followed code k f refl refl (condition s_c) tail) in
         let at_again = (loop at_past).0 in
         let pj = one_part code k f place mark mark (I.Jump again) first.0 first.1 (jump code k f again (omega arith) at_again) in

@@ -8,6 +8,7 @@ use Rattle.core_isa.specs.declared.code.Code.{Code}
 use Rattle.core_isa.specs.declared.code.CodeFunction.{CodeFunction}
 use Rattle.core_isa.specs.declared.instr.Instr.TheVariants as I
 use Rattle.core_isa.specs.Marks.{after}
+use Rattle.code_forms.specs.declared.test_kind.TestKind.TheVariants.{Branch, LoopEnd}
 use Rattle.code_forms.specs.Conditions.{asked}
 use Rattle.code_forms.specs.Lines.{raised, with_handler, with_recording}
 use Rattle.code_forms.specs.Programs.{statement_slots, block_slots, otherwise_slots, handlers_slots}
@@ -78,13 +79,13 @@ module _ (code : Code) (k : ℕ) (f : CodeFunction) (cs : C.Setting) (plain : Li
         let room_r = right_room inside.free (block_slots b) (otherwise_slots rest) f.slots room in
         let front = texts_front cs (expression_texts c ++ block_texts b) (otherwise_texts rest) t in
         branch_part code k f cs inside c b rest place
-        (value d inside g.outside (omega (arith, room_b, some_slots b)) (asked c) (asked_suited cs plain d c u.0) (subst (HasTexts cs) (asked_texts c) (texts_front cs (expression_texts c) (block_texts b) front)) place)
+        (value d inside g.outside (omega (arith, room_b, some_slots b)) (asked Branch c) (asked_suited cs plain d Branch c u.0) (subst (HasTexts cs) (asked_texts Branch c) (texts_front cs (expression_texts c) (block_texts b) front)) place)
         (block_part b l r d u.1 (texts_back cs (expression_texts c) (block_texts b) front) inside (then_place cs place c) room_b (earlier code k f l r d inside _ _ (omega arith) g))
         (otherwise_part rest l r d u.2 (texts_back cs (expression_texts c ++ block_texts b) (otherwise_texts rest) t) inside (else_place cs inside place c b rest) room_r (earlier code k f l r d inside _ _ (omega arith) g))
         s
     statement_part (while_do c b) l r d u t inside place room g s =
         while_part code k f cs inside c b place
-        (value d inside g.outside (omega (arith, room, some_slots b)) (asked c) (asked_suited cs plain d c u.0) (subst (HasTexts cs) (asked_texts c) (texts_back cs (block_texts b) (expression_texts c) t)) (again code k f cs inside c b place))
+        (value d inside g.outside (omega (arith, room, some_slots b)) (asked LoopEnd c) (asked_suited cs plain d LoopEnd c u.0) (subst (HasTexts cs) (asked_texts LoopEnd c) (texts_back cs (block_texts b) (expression_texts c) t)) (again code k f cs inside c b place))
         (λ at_again at_past. block_part b true r d u.1 (texts_front cs (block_texts b) (expression_texts c) t) (in_loop (again code k f cs inside c b place) (past code k f cs inside c b place) inside) (place + 2) room (in_a_loop code k f (again code k f cs inside c b place) (past code k f cs inside c b place) l r d inside _ _ at_again at_past (omega arith) (omega arith) g))
         s
     statement_part (for_range x from to b) l r d u t inside place room g s =
@@ -139,7 +140,7 @@ module _ (code : Code) (k : ℕ) (f : CodeFunction) (cs : C.Setting) (plain : Li
         let room_r = right_room inside.free (block_slots b) (otherwise_slots rest) f.slots room in
         let front = texts_front cs (expression_texts c ++ block_texts b) (otherwise_texts rest) t in
         branch_part code k f cs inside c b rest place
-        (value d inside g.outside (omega (arith, room_b, some_slots b)) (asked c) (asked_suited cs plain d c u.0) (subst (HasTexts cs) (asked_texts c) (texts_front cs (expression_texts c) (block_texts b) front)) place)
+        (value d inside g.outside (omega (arith, room_b, some_slots b)) (asked Branch c) (asked_suited cs plain d Branch c u.0) (subst (HasTexts cs) (asked_texts Branch c) (texts_front cs (expression_texts c) (block_texts b) front)) place)
         (block_part b l r d u.1 (texts_back cs (expression_texts c) (block_texts b) front) inside (then_place cs place c) room_b (earlier code k f l r d inside _ _ (omega arith) g))
         (otherwise_part rest l r d u.2 (texts_back cs (expression_texts c ++ block_texts b) (otherwise_texts rest) t) inside (else_place cs inside place c b rest) room_r (earlier code k f l r d inside _ _ (omega arith) g))
         s

@@ -22,7 +22,7 @@ use Rattle.core_isa.specs.declared.instr.Instr.TheVariants as I
 use Rattle.code_forms.specs.Setting as C
 use Rattle.code_forms.specs.ExpressionCode.{expression_code, arguments_code, unary_lines, call_lines, filled, numbers_in}
 use Rattle.code_forms.specs.Lines.{line, raised, straight}
-use Rattle.code_forms.specs.Operations.{operator_instrs, unary_instrs, literal, negated, comparison_instrs, not_instrs, wrapping, load_instr, call_has_value, takes_numbers, array_argument, method_instrs, method_has_value}
+use Rattle.code_forms.specs.Operations.{operator_instrs, unary_instrs, literal, negated, comparison_instrs, not_instrs, wrapping, load_instr, call_has_value, takes_numbers, array_argument, method_instrs, method_has_value, wrapped_type}
 use Rattle.code_forms.specs.Sizes.{expression_size, arguments_size, unary_size, call_size, method_size, unless}
 use Rattle.code_forms.specs.Texts.{expression_texts, argument_texts}
 use Rattle.code_forms.proofs.Lengths.{length-expression, length-arguments}
@@ -39,6 +39,7 @@ use Rattle.code_follows.proofs.Lines.{LinesStand, first_part, second_part, one_l
 use Rattle.code_follows.proofs.Operators.{follows_operator}
 use Rattle.code_follows.proofs.Variables.{IsScalar, follows_load}
 use Rattle.code_forms.specs.Suited.{is_scalar, MethodHasWhatItTakes, IsSuited, AreSuited}
+use Rattle.code_meaning.proofs.Bounded.{wrapped_means}
 use Rattle.code_meaning.proofs.Known.{TextsIn, in_front, in_back, its_text, Known, At, at_deeper, follows_to}
 use Rattle.code_meaning.proofs.Methods.{follows_operation}
 use Rattle.code_meaning.proofs.Negated.{negated_means, negated_fits}
@@ -159,11 +160,11 @@ module _ (given : List Reply) (code : Code) (cs : C.Setting) (plain : List Bytes
     follows_expression (unary op e) r t mark place s setting at =
         unary_or_number setting mark place op e (negated op (literal e)) refl r (λ se. follows_expression e r t mark place se setting at) s
     follows_expression (binary op a b) r t mark place s setting at =
-        let ty = type_of cs.scope (binary op a b) in
+        let ty = wrapped_type op (literal b) (type_of cs.scope (binary op a b)) in
         let na = expression_size cs a in
         let p = place + na + expression_size cs b in
         let past : p + 1 + length (wrapping ty) ≡ p + length (operator_instrs op ty) = omega arith in
-        binary_part setting mark (raised 2 mark) place a b (operator_instrs op ty) Fits64 (λ w. holding (w ∷ [])) _ (λ sa. follows_expression a r.0 (in_front cs.texts (expression_texts a) (expression_texts b) t) mark place sa setting at) (λ sb. follows_expression b r.1 (in_back cs.texts (expression_texts a) (expression_texts b) t) (raised 1 mark) (place + na) sb (deeper [] setting) (at_deeper cs room free in_record setting at)) (λ v w st. follows_to given code past (follows_operator given code op ty [] [] v w st)) s
+        follows_same given code (wrapped_means cs.scope callee op a b) (binary_part setting mark (raised 2 mark) place a b (operator_instrs op ty) Fits64 (λ w. holding (w ∷ [])) _ (λ sa. follows_expression a r.0 (in_front cs.texts (expression_texts a) (expression_texts b) t) mark place sa setting at) (λ sb. follows_expression b r.1 (in_back cs.texts (expression_texts a) (expression_texts b) t) (raised 1 mark) (place + na) sb (deeper [] setting) (at_deeper cs room free in_record setting at)) (λ v w st. follows_to given code past (follows_operator given code op ty [] [] v w st)) s)
     follows_expression (compare op a b) r t mark place s setting at =
         let na = expression_size cs a in
         binary_part setting mark (raised 2 mark) place a b (comparison_instrs op) Fits64 (λ w. holding (w ∷ [])) _ (λ sa. follows_expression a r.0 (in_front cs.texts (expression_texts a) (expression_texts b) t) mark place sa setting at) (λ sb. follows_expression b r.1 (in_back cs.texts (expression_texts a) (expression_texts b) t) (raised 1 mark) (place + na) sb (deeper [] setting) (at_deeper cs room free in_record setting at)) (λ v w st. follows_comparison given code [] [] op v w st) s

@@ -1,5 +1,6 @@
 pub mod ArrayAssignments
 pub mod Assignments
+pub mod Bounded
 pub mod Branches
 pub mod Effects
 pub mod Expressions

@@ -22,7 +22,7 @@ use Rattle.kern_calls.specs.Types.{type_of}
 use Rattle.timeline_sem.specs.Expressions.{text_in}
 use Rattle.code_forms.specs.Setting as C
 use Rattle.code_forms.specs.ExpressionCode.{numbers_in}
-use Rattle.code_forms.specs.Operations.{wrapping, unary_instrs, literal, negated, comparison_instrs, builtin_instrs, call_instrs, call_has_value, takes_numbers, array_argument, operation_instrs, method_instrs, method_has_value}
+use Rattle.code_forms.specs.Operations.{wrapping, unary_instrs, literal, negated, comparison_instrs, builtin_instrs, call_instrs, call_has_value, takes_numbers, array_argument, operation_instrs, method_instrs, method_has_value, wrapped_type}
 use Rattle.code_forms.specs.Programs.{setting_of, plain_names, function_code, function_size, functions_code, code_of_program}
 use Rattle.code_forms.specs.Texts.{texts_of}
 use Rattle.code_forms.specs.Sizes.{unless, when, unary_size, expression_size, arguments_size, effect_size, stored_size, return_size, from_size, exit_size, statement_size, block_size, parallel_size, otherwise_size, handlers_size}
@@ -128,7 +128,7 @@ module _ (cs : C.Setting) (plain : List Bytes) where
     expression_short d (group e) r = omega (arith, expression_short d e r)
     expression_short d (unary op e) r =
         omega (arith, expression_short d e r, unary_short op (type_of cs.scope e), negated_short (negated op (literal e)) (expression_size cs e) (length (unary_instrs op (type_of cs.scope e))))
-    expression_short d (binary op a b) r = omega (arith, expression_short d a r.0, expression_short d b r.1, wrapping_short (type_of cs.scope (binary op a b)))
+    expression_short d (binary op a b) r = omega (arith, expression_short d a r.0, expression_short d b r.1, wrapping_short (wrapped_type op (literal b) (type_of cs.scope (binary op a b))))
     expression_short d (compare op a b) r = omega (arith, expression_short d a r.0, expression_short d b r.1, comparison_short op)
     expression_short d (negation e) r = omega (arith, expression_short d e r)
     expression_short d (conjunction a b) r = omega (arith, expression_short d a r.0, expression_short d b r.1)

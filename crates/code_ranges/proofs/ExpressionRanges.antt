@@ -15,7 +15,7 @@ use Rattle.core_isa.specs.declared.instr.Instr.TheVariants as I
 use Rattle.core_image.specs.Ranges.{is_short}
 use Rattle.code_forms.specs.ExpressionCode.{numbers_in, filled, dropped, unary_lines, call_lines, method_lines, expression_code, arguments_code, effect_code}
 use Rattle.code_forms.specs.Lines.{line, raised, straight}
-use Rattle.code_forms.specs.Operations.{operator_instrs, unary_instrs, literal, negated, comparison_instrs, not_instrs, load_instr, call_instrs, call_has_value, takes_numbers, array_argument, method_instrs, method_has_value}
+use Rattle.code_forms.specs.Operations.{operator_instrs, unary_instrs, literal, negated, comparison_instrs, not_instrs, load_instr, call_instrs, call_has_value, takes_numbers, array_argument, method_instrs, method_has_value, wrapped_type}
 use Rattle.code_forms.specs.Setting.{Setting, slot_of, length_of}
 use Rattle.code_forms.specs.Sizes.{unless, when, unary_size, expression_size, arguments_size, effect_size}
 use Rattle.code_forms.proofs.Literals.{negated_is}
@@ -149,8 +149,8 @@ module _ (setting : Setting) (fits : SettingFits setting) (free : ℕ) (free_fit
     expression_ranged mark place (unary op e) s r p =
         unary_ranged mark place op e (negated op (literal e)) refl s r p (λ less. expression_ranged mark place e s (less_roomy mark (max (expression_height e) 14) (expression_height e) r (omega arith)) less)
     expression_ranged mark place (binary op a b) s r p =
-        let own = operator_instrs op (type_of setting.scope (binary op a b)) in
-        let few = operator_short op (type_of setting.scope (binary op a b)) in
+        let own = operator_instrs op (wrapped_type op (literal b) (type_of setting.scope (binary op a b))) in
+        let few = operator_short op (wrapped_type op (literal b) (type_of setting.scope (binary op a b))) in
         let h = max (expression_height a) (max (1 + expression_height b) 14) in
         let first = expression_code setting free mark place a in
         let second = expression_code setting free (raised 1 mark) (place + expression_size setting a) b in
@@ -163,7 +163,7 @@ module _ (setting : Setting) (fits : SettingFits setting) (free : ℕ) (free_fit
         r
         (omega arith)
         (omega (arith, few))
-        (operator_fits op (type_of setting.scope (binary op a b)))
+        (operator_fits op (wrapped_type op (literal b) (type_of setting.scope (binary op a b))))
         (expression_ranged mark place a s.0 (less_roomy mark h (expression_height a) r (omega arith)) (omega (arith, p)))
         (expression_ranged (raised 1 mark) (place + expression_size setting a) b s.1 (roomy_above mark 1 h (expression_height b) r (omega arith)) (omega (arith, p)))
     expression_ranged mark place (compare op a b) s r p =

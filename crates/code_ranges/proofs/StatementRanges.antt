@@ -9,6 +9,7 @@ use Rattle.timeline_sem.specs.Statements.{operator_of}
 use Rattle.core_isa.specs.declared.code.Mark.{Mark}
 use Rattle.core_isa.specs.declared.instr.Instr.TheVariants as I
 use Rattle.core_image.specs.Ranges.{is_short}
+use Rattle.code_forms.specs.declared.test_kind.TestKind.TheVariants.{Branch, LoopEnd}
 use Rattle.code_forms.specs.Conditions.{is_turned, asked, test_instrs, loop_instrs, loop_size}
 use Rattle.code_forms.specs.ExpressionCode.{expression_code}
 use Rattle.code_forms.specs.Lines.{line, raised, with_handler, with_recording, straight}
@@ -140,28 +141,28 @@ module _ (setting : Setting) (sound : SettingFits setting) where
         (moved_fits (length es) inside.free (slot_of setting x) inside.mark s.empty s.handlers s.recording f.1.1 f.1.0)
     statement_ranged inside place (if_then c b rest) s f l p =
         let m = inside.mark in
-        let test = test_instrs (is_turned c) (test_place setting place c) (else_place setting inside place c b rest) in
+        let test = test_instrs (is_turned Branch c) (test_place setting place c) (else_place setting inside place c b rest) in
         branch_fits
         m
         test
-        (value_code setting inside place (asked c))
+        (value_code setting inside place (asked Branch c))
         (block_code setting inside (then_place setting place c) b)
         (exit m rest (end_place setting inside place c b rest))
         (otherwise_code setting inside (else_place setting inside place c b rest) rest)
-        (space_row m inside.free 1 test s (omega arith) (test_short (is_turned c) (test_place setting place c) (else_place setting inside place c b rest)) (test_fits (is_turned c) (test_place setting place c) (else_place setting inside place c b rest) (omega arith) (omega (arith, p))))
-        (value_ranged m inside.free place (asked c) (free_is m inside.free s) (asked_fits m c f.0) (omega (arith, p)))
+        (space_row m inside.free 1 test s (omega arith) (test_short (is_turned Branch c) (test_place setting place c) (else_place setting inside place c b rest)) (test_fits (is_turned Branch c) (test_place setting place c) (else_place setting inside place c b rest) (omega arith) (omega (arith, p))))
+        (value_ranged m inside.free place (asked Branch c) (free_is m inside.free s) (asked_fits Branch m c f.0) (omega (arith, p)))
         (block_ranged inside (then_place setting place c) b s f.1 l (omega (arith, p)))
         (exit_fits m rest (end_place setting inside place c b rest) (bare_mark m inside.free s) (omega (arith, p)))
         (otherwise_ranged inside (else_place setting inside place c b rest) rest s f.2 l (omega (arith, p)))
     statement_ranged inside place (while_do c b) s f l p =
         let m = inside.mark in
         let again = place + 2 + block_size setting m.tries m.tries b in
-        let past = again + expression_size setting (asked c) + loop_size (is_turned c) in
+        let past = again + expression_size setting (asked LoopEnd c) + loop_size (is_turned LoopEnd c) in
         let jump = line m (I.Jump again) in
         let turn = line m I.Turn in
         let body = block_code setting (in_loop again past inside) (place + 2) b in
-        let test = value_code setting inside again (asked c) in
-        let end = loop_instrs (is_turned c) (place + 1) past in
+        let test = value_code setting inside again (asked LoopEnd c) in
+        let end = loop_instrs (is_turned LoopEnd c) (place + 1) past in
         both_fit
         ((jump ∷ (turn ∷ body)) ++ test)
         (straight (raised 1 m) end)
@@ -177,8 +178,8 @@ module _ (setting : Setting) (sound : SettingFits setting) where
         body
         (line_fits m I.Turn (bare_mark m inside.free s) refl)
         (block_ranged (in_loop again past inside) (place + 2) b s f.1 (record { again = omega (arith, p); past = omega (arith, p) }) (omega (arith, p)))))
-        (value_ranged m inside.free again (asked c) (free_is m inside.free s) (asked_fits m c f.0) (omega (arith, p))))
-        (space_row m inside.free 1 end s (omega arith) (loop_short (is_turned c) (place + 1) past) (loop_fits (is_turned c) (place + 1) past (omega (arith, p)) (omega (arith, p))))
+        (value_ranged m inside.free again (asked LoopEnd c) (free_is m inside.free s) (asked_fits LoopEnd m c f.0) (omega (arith, p))))
+        (space_row m inside.free 1 end s (omega arith) (loop_short (is_turned LoopEnd c) (place + 1) past) (loop_fits (is_turned LoopEnd c) (place + 1) past (omega (arith, p)) (omega (arith, p))))
     statement_ranged inside place (for_range x from to b) s f l p =
         let m = inside.mark in
         let turns = turns_place setting place from to in
@@ -296,16 +297,16 @@ module _ (setting : Setting) (sound : SettingFits setting) where
     otherwise_ranged inside place (else_do b) s f l p = block_ranged inside place b s f l p
     otherwise_ranged inside place (elif_then ln c b rest) s f l p =
         let m = inside.mark in
-        let test = test_instrs (is_turned c) (test_place setting place c) (else_place setting inside place c b rest) in
+        let test = test_instrs (is_turned Branch c) (test_place setting place c) (else_place setting inside place c b rest) in
         branch_fits
         m
         test
-        (value_code setting inside place (asked c))
+        (value_code setting inside place (asked Branch c))
         (block_code setting inside (then_place setting place c) b)
         (exit m rest (end_place setting inside place c b rest))
         (otherwise_code setting inside (else_place setting inside place c b rest) rest)
-        (space_row m inside.free 1 test s (omega arith) (test_short (is_turned c) (test_place setting place c) (else_place setting inside place c b rest)) (test_fits (is_turned c) (test_place setting place c) (else_place setting inside place c b rest) (omega arith) (omega (arith, p))))
-        (value_ranged m inside.free place (asked c) (free_is m inside.free s) (asked_fits m c f.0) (omega (arith, p)))
+        (space_row m inside.free 1 test s (omega arith) (test_short (is_turned Branch c) (test_place setting place c) (else_place setting inside place c b rest)) (test_fits (is_turned Branch c) (test_place setting place c) (else_place setting inside place c b rest) (omega arith) (omega (arith, p))))
+        (value_ranged m inside.free place (asked Branch c) (free_is m inside.free s) (asked_fits Branch m c f.0) (omega (arith, p)))
         (block_ranged inside (then_place setting place c) b s f.1 l (omega (arith, p)))
         (exit_fits m rest (end_place setting inside place c b rest) (bare_mark m inside.free s) (omega (arith, p)))
         (otherwise_ranged inside (else_place setting inside place c b rest) rest s f.2 l (omega (arith, p)))

@@ -10,35 +10,37 @@ ghost use Rattle.core_code_names.specs.SettingOf.{setting_of};
 
 use crate::expressions::put_expression;
 use crate::sizes::expression_size;
+use code_forms::TestKind;
 use core_code_lines::raised;
 use core_code_names::Setting;
-use core_code_operations::{comparison_size, lacks_instr, one_instr, put_comparison};
+use core_code_operations::{asked_comparison, comparison_size, is_opposed, put_comparison};
 use core_isa::{CodeLine, Mark};
 use kern_syntax::Expr;
 use std::alloc::AllocError;
 
-/// Whether the opposite of a condition is asked: that of `not`, and of a comparison without an instruction of its own.
-pub fn is_turned(condition: &Expr) -> bool
-    ensures { result ≡ is_turned (expression_of condition.now) }
+/// Whether the opposite of a condition is asked: that of `not`, and of a comparison whose opposite takes fewer instructions with the
+/// test at this place.
+pub fn is_turned(test: TestKind, condition: &Expr) -> bool
+    ensures { result ≡ is_turned test (expression_of condition.now) }
 {
     match condition {
         Expr::Not(_) => true,
-        Expr::Compare(comparison, _, _) => lacks_instr(*comparison),
+        Expr::Compare(comparison, _, _) => is_opposed(*comparison, test),
         _ => false,
     }
 }
 
 /// How many instructions the code of what is asked for a condition has.
-pub fn asked_size(setting: &Setting<'_>, condition: &Expr) -> u32
-    requires { expression_size (setting_of setting.now) (asked (expression_of condition.now)) < 2 ^ 32 }
-    ensures { result ≡ expression_size (setting_of setting.now) (asked (expression_of condition.now)) }
+pub fn asked_size(setting: &Setting<'_>, test: TestKind, condition: &Expr) -> u32
+    requires { expression_size (setting_of setting.now) (asked test (expression_of condition.now)) < 2 ^ 32 }
+    ensures { result ≡ expression_size (setting_of setting.now) (asked test (expression_of condition.now)) }
 {
     match condition {
         Expr::Not(operand) => expression_size(setting, operand).size,
         Expr::Compare(comparison, left, right) => {
             let left = expression_size(setting, left);
             let right = expression_size(setting, right);
-            left.size + right.size + comparison_size(one_instr(*comparison))
+            left.size + right.size + comparison_size(asked_comparison(*comparison, test))
         }
         _ => expression_size(setting, condition).size,
     }
@@ -50,13 +52,14 @@ pub fn put_asked(
     setting: &Setting<'_>,
     free: u16,
     mark: Mark,
+    test: TestKind,
     condition: &Expr,
 ) -> Result<(), AllocError>
-    requires { IsReady (setting_of setting.now) mark (length lines.old.items) (asked (expression_of condition.now)) }
+    requires { IsReady (setting_of setting.now) mark (length lines.old.items) (asked test (expression_of condition.now)) }
     ensures code { OnOk result (lines.new.items ≡ lines.old.items
-        ++ expression_code (setting_of setting.now) free mark (length lines.old.items) (asked (expression_of condition.now))) }
+        ++ expression_code (setting_of setting.now) free mark (length lines.old.items) (asked test (expression_of condition.now))) }
     ensures longer { OnOk result (length lines.new.items ≡ length lines.old.items
-        + expression_size (setting_of setting.now) (asked (expression_of condition.now))) }
+        + expression_size (setting_of setting.now) (asked test (expression_of condition.now))) }
 {
     match condition {
         Expr::Not(operand) => {
@@ -66,7 +69,7 @@ pub fn put_asked(
         Expr::Compare(comparison, left, right) => {
             put_expression(lines, setting, free, mark, left)?;
             put_expression(lines, setting, free, raised(mark, 1), right)?;
-            put_comparison(lines, raised(mark, 2), one_instr(*comparison))
+            put_comparison(lines, raised(mark, 2), asked_comparison(*comparison, test))
         }
         _ => {
             put_expression(lines, setting, free, mark, condition)?;

@@ -17,6 +17,7 @@ ghost use Rattle.core_code_expressions.specs.ReadyCalls.{IsReadyCall, IsReadyMet
 
 use crate::pieces::{
     load_instr, negated, put_and_end, put_and_test, put_filler, put_or_test, variable_type,
+    wrapped_type,
 };
 use crate::sizes::expression_size;
 use core_code_lines::{put, raised};
@@ -83,7 +84,8 @@ pub fn put_expression(
             let first = put_expression(lines, setting, free, mark, left)?;
             let second = put_expression(lines, setting, free, raised(mark, 1), right)?;
             let kind = binary_type(*operator, first, second);
-            put_operator(lines, raised(mark, 2), *operator, kind)?;
+            let wrapped = wrapped_type(*operator, right, kind);
+            put_operator(lines, raised(mark, 2), *operator, wrapped)?;
             Ok(kind)
         }
         Expr::Compare(comparison, left, right) => {

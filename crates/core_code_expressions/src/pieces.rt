@@ -8,7 +8,7 @@ ghost use Rattle.kern_syntax.specs.TreeOf.{expression_of};
 ghost use Rattle.core_isa.specs.declared.instr.Instr.TheVariants as I;
 ghost use Rattle.code_forms.specs.ExpressionCode.{dropped, filled};
 ghost use Rattle.code_forms.specs.Lines.{line, raised};
-ghost use Rattle.code_forms.specs.Operations.{literal, load_instr, negated};
+ghost use Rattle.code_forms.specs.Operations.{literal, load_instr, negated, wrapped_type};
 ghost use Rattle.code_forms.specs.Sizes.{unless, when};
 ghost use Rattle.core_code_names.specs.SettingOf.{setting_of};
 
@@ -16,7 +16,7 @@ use core_code_lines::{put, raised};
 use core_code_names::Setting;
 use core_isa::{CodeLine, Instr, Mark};
 use kern_calls::ValueType;
-use kern_syntax::{Expr, UnaryOperator};
+use kern_syntax::{BinaryOperator, Expr, UnaryOperator};
 use std::alloc::AllocError;
 
 /// The type of a name of the function; int64 of another.
@@ -56,6 +56,20 @@ pub fn negated(operator: UnaryOperator, operand: &Expr) -> Option<u64>
     match operator {
         UnaryOperator::Negate => literal(operand),
         UnaryOperator::Invert => None,
+    }
+}
+
+/// The type at which an operator's result is wrapped, by its right operand: a remainder by an integer, and the bits in common with
+/// one, can't leave the width of their type, so nothing is left to do.
+pub fn wrapped_type(operator: BinaryOperator, right: &Expr, kind: ValueType) -> ValueType
+    ensures { result ≡ wrapped_type operator (literal (expression_of right.now)) kind }
+{
+    match operator {
+        BinaryOperator::Remainder | BinaryOperator::BitAnd => match literal(right) {
+            Some(_) => ValueType::Int64,
+            None => kind,
+        },
+        _ => kind,
     }
 }
 

@@ -9,7 +9,7 @@ ghost use Rattle.code_forms.specs.Operations.{call_has_value};
 ghost use Rattle.code_forms.specs.Sizes.{arguments_size, call_size, expression_size, unless};
 ghost use Rattle.core_code_names.specs.SettingOf.{setting_of};
 
-use crate::pieces::{negated, unless, variable_type};
+use crate::pieces::{negated, unless, variable_type, wrapped_type};
 use core_code_names::Setting;
 use core_code_operations::{
     Callee, callee_of, comparison_size, method_has_value, method_named, method_size, method_type,
@@ -61,11 +61,12 @@ pub fn expression_size(setting: &Setting<'_>, e: &Expr) -> Measure
             Measure { size, kind }
         }
         Expr::Binary(operator, left, right) => {
-            let left = expression_size(setting, left);
-            let right = expression_size(setting, right);
-            let kind = binary_type(*operator, left.kind, right.kind);
+            let first = expression_size(setting, left);
+            let second = expression_size(setting, right);
+            let kind = binary_type(*operator, first.kind, second.kind);
+            let wrapped = wrapped_type(*operator, right, kind);
             Measure {
-                size: left.size + right.size + wrapped_size(kind),
+                size: first.size + second.size + wrapped_size(wrapped),
                 kind,
             }
         }

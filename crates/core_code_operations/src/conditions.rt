@@ -1,32 +1,37 @@
 // The tests of conditions, where a condition's opposite may be asked in its place.
 
 ghost use Rattle.std.specs.Prelude.{◌≡◌, ◌+◌, ◌<◌, ◌^◌, ◌++◌, OnOk, length};
-ghost use Rattle.code_forms.specs.Conditions.{lacks_instr, loop_instrs, loop_size, one_instr, test_instrs, test_size};
+ghost use Rattle.code_forms.specs.Conditions.{asked_comparison, is_opposed, loop_instrs, loop_size, test_instrs, test_size};
 ghost use Rattle.code_forms.specs.Lines.{straight};
 ghost use Rattle.code_ranges.specs.Room.{HasRoom};
 
+use code_forms::TestKind;
 use core_code_lines::put_all;
 use core_isa::{CodeLine, Instr, Mark};
 use kern_syntax::Comparison;
 use std::alloc::AllocError;
 
-/// Whether a comparison has no instruction of its own, though its opposite has one.
-pub fn lacks_instr(comparison: Comparison) -> bool
-    ensures { result ≡ lacks_instr comparison }
+/// Whether the opposite of a comparison is asked: that of one that has no instruction of its own, though its opposite has one,
+/// and at the end of a loop, whose test is shorter then, that of `==` and `!=`.
+pub fn is_opposed(comparison: Comparison, test: TestKind) -> bool
+    ensures { result ≡ is_opposed comparison test }
 {
-    match comparison {
-        Comparison::Greater | Comparison::GreaterEqual => true,
+    match (comparison, test) {
+        (Comparison::Greater | Comparison::GreaterEqual, _) => true,
+        (Comparison::Equal | Comparison::NotEqual, TestKind::LoopEnd) => true,
         _ => false,
     }
 }
 
-/// The opposite of a comparison that has no instruction of its own, and any other comparison itself.
-pub fn one_instr(comparison: Comparison) -> Comparison
-    ensures { result ≡ one_instr comparison }
+/// What is asked for a comparison: its opposite, where that is asked, and else the comparison itself.
+pub fn asked_comparison(comparison: Comparison, test: TestKind) -> Comparison
+    ensures { result ≡ asked_comparison comparison test }
 {
-    match comparison {
-        Comparison::Greater => Comparison::LessEqual,
-        Comparison::GreaterEqual => Comparison::Less,
+    match (comparison, test) {
+        (Comparison::Greater, _) => Comparison::LessEqual,
+        (Comparison::GreaterEqual, _) => Comparison::Less,
+        (Comparison::Equal, TestKind::LoopEnd) => Comparison::NotEqual,
+        (Comparison::NotEqual, TestKind::LoopEnd) => Comparison::Equal,
         _ => comparison,
     }
 }

@@ -4,6 +4,7 @@ use Rattle.kern_syntax.specs.Tree.{Bytes, Expression, Statement, if_then, while_
 use Rattle.kern_calls.specs.Calls.{look_up}
 use Rattle.kern_calls.specs.declared.types.ValueType.{ValueType}
 use Rattle.kern_calls.specs.declared.types.ValueType.TheVariants.{Int64}
+use Rattle.code_forms.specs.declared.test_kind.TestKind.TheVariants.{Branch}
 use Rattle.code_forms.specs.Conditions.{is_turned, asked, test_size}
 use Rattle.code_forms.specs.Setting.{Setting}
 use Rattle.code_forms.specs.Sizes.{block_size, exit_size, expression_size, otherwise_size, statement_size}
@@ -26,7 +27,7 @@ simple_size setting tries kept s = statement_size setting tries kept s
 -- of a branch: what is asked for its condition, the test and its body, without the jump past what follows
 abbrev pub branch_size : Setting → (tries kept : ℕ) → Expression → Block → ℕ
 branch_size setting tries kept c b =
-    expression_size setting (asked c) + (test_size (is_turned c) + block_size setting tries kept b)
+    expression_size setting (asked Branch c) + (test_size (is_turned Branch c) + block_size setting tries kept b)
 
 -- of what follows a branch, with the jump past it
 abbrev pub followed_size : Setting → (tries kept : ℕ) → Otherwise → ℕ

@@ -6,6 +6,7 @@ ghost use Rattle.code_forms.specs.Sizes.{block_size, statement_size};
 ghost use Rattle.core_code_names.specs.SettingOf.{setting_of};
 
 use crate::simple::simple_size;
+use code_forms::TestKind;
 use core_code_expressions::{asked_size, expression_size, is_turned};
 use core_code_names::Setting;
 use core_code_operations::{loop_size, test_size};
@@ -39,8 +40,8 @@ pub fn statement_size(setting: &Setting<'_>, tries: u32, kept: u32, statement: &
         }
         StmtKind::While(condition, body) => {
             block_size(setting, tries, tries, body)
-                + asked_size(setting, condition)
-                + loop_size(is_turned(condition))
+                + asked_size(setting, TestKind::LoopEnd, condition)
+                + loop_size(is_turned(TestKind::LoopEnd, condition))
                 + 2
         }
         StmtKind::ForTo(_, to, body) => {
@@ -102,8 +103,8 @@ pub fn branch_size(
     requires { tries + branch_size (setting_of setting.now) tries kept (expression_of condition.now) (block_of body.now) < 2 ^ 32 }
     ensures { result ≡ branch_size (setting_of setting.now) tries kept (expression_of condition.now) (block_of body.now) }
 {
-    asked_size(setting, condition)
-        + test_size(is_turned(condition))
+    asked_size(setting, TestKind::Branch, condition)
+        + test_size(is_turned(TestKind::Branch, condition))
         + block_size(setting, tries, kept, body)
 }
 

@@ -8,6 +8,7 @@ use Rattle.kern_syntax.specs.TreeOf.{block_of, branches_of, else_of}
 use Rattle.core_isa.specs.declared.code.CodeLine.{CodeLine}
 use Rattle.core_isa.specs.declared.code.Mark.{Mark}
 use Rattle.core_isa.specs.declared.instr.Instr.TheVariants as I
+use Rattle.code_forms.specs.declared.test_kind.TestKind.TheVariants.{Branch}
 use Rattle.code_forms.specs.Conditions.{is_turned, asked, test_instrs}
 use Rattle.code_forms.specs.ExpressionCode.{expression_code}
 use Rattle.code_forms.specs.Lines.{line, raised, straight, with_recording}
@@ -84,7 +85,7 @@ module _ (setting : Setting) (inside : Inside) where
       let else_at = else_place setting inside (length l0) c b rest in
       let more : then_place setting (length l0) c + block_size setting inside.mark.tries inside.loop.tries b + when followed ≡ else_at = omega (arith, ap when same, when_followed rest) in
       let other : length l1 + exit_size setting rest ≡ else_at = omega (arith, long) in
-      let all = λ (j e p : ℕ). (l0 ++ (value_code setting inside (length l0) (asked c) ++ straight (raised 1 inside.mark) (test_instrs (is_turned c) (test_place setting (length l0) c) j) ++ block_code setting inside (then_place setting (length l0) c) b)) ++ (exit inside.mark rest e ++ otherwise_code setting inside p rest) in
+      let all = λ (j e p : ℕ). (l0 ++ (value_code setting inside (length l0) (asked Branch c) ++ straight (raised 1 inside.mark) (test_instrs (is_turned Branch c) (test_place setting (length l0) c) j) ++ block_code setting inside (then_place setting (length l0) c) b)) ++ (exit inside.mark rest e ++ otherwise_code setting inside p rest) in
       let put : l2 ≡ all (then_place setting (length l0) c + block_size setting inside.mark.tries inside.loop.tries b + when followed) end (length l1 + exit_size setting rest) = e2 ∙ ap (λ l. l ++ followed_code setting inside (length l1) end rest) e1 in
       put
       ∙ ap (λ j. all j end (length l1 + exit_size setting rest)) more

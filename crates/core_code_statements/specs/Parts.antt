@@ -3,6 +3,7 @@ use Rattle.std.specs.Prelude.{ℕ, ◌+◌, List, [], ◌∷◌, ◌++◌, Bool,
 use Rattle.kern_syntax.specs.Tree.{Bytes, Expression, Block, Otherwise, no_else, Handlers, no_handler, except_then}
 use Rattle.core_isa.specs.declared.code.CodeLine.{CodeLine}
 use Rattle.core_isa.specs.declared.instr.Instr.TheVariants as I
+use Rattle.code_forms.specs.declared.test_kind.TestKind.TheVariants.{Branch}
 use Rattle.code_forms.specs.Conditions.{is_turned, asked, test_instrs}
 use Rattle.code_forms.specs.Lines.{line, raised, straight, with_handler}
 use Rattle.code_forms.specs.Setting.{Setting}
@@ -18,11 +19,11 @@ module _ (setting : Setting) (inside : Inside) where
   -- a branch, without the jump past what follows: what is asked for its condition, the test and its body
   abbrev pub branch_code : (place : ℕ) → Expression → Block → (followed : Bool) → List CodeLine
   branch_code place c b followed =
-      value_code setting inside place (asked c)
+      value_code setting inside place (asked Branch c)
       ++ straight
       (raised 1 inside.mark)
       (test_instrs
-      (is_turned c)
+      (is_turned Branch c)
       (test_place setting place c)
       (then_place setting place c + block_size setting inside.mark.tries inside.loop.tries b + when followed))
       ++ block_code setting inside (then_place setting place c) b

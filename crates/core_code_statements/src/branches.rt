@@ -10,6 +10,7 @@ ghost use Rattle.core_code_simple.specs.InsideOf.{inside_of};
 ghost use Rattle.core_code_statements.specs.Parts.{branch_code, is_followed};
 
 use crate::blocks::put_block;
+use code_forms::TestKind;
 use core_code_expressions::{is_turned, put_asked};
 use core_code_lines::{put, raised};
 use core_code_names::Setting;
@@ -51,8 +52,16 @@ pub fn put_branch(
     let kept = u32::from(inside.enclosing.tries);
     let size = branch_size(setting, tries, kept, body, condition);
     let other = lines.len() as u32 + size + u32::from(followed);
-    put_asked(lines, setting, inside.free, inside.mark, condition)?;
-    put_test(lines, raised(inside.mark, 1), is_turned(condition), other)?;
+    put_asked(
+        lines,
+        setting,
+        inside.free,
+        inside.mark,
+        TestKind::Branch,
+        condition,
+    )?;
+    let turned = is_turned(TestKind::Branch, condition);
+    put_test(lines, raised(inside.mark, 1), turned, other)?;
     put_block(lines, setting, inside, body)
 }
 

@@ -10,6 +10,7 @@ ghost use Rattle.core_code_names.specs.SettingOf.{setting_of};
 ghost use Rattle.core_code_simple.specs.InsideOf.{inside_of};
 
 use crate::blocks::put_block;
+use code_forms::TestKind;
 use core_code_expressions::{asked_size, is_turned, put_asked, put_expression};
 use core_code_lines::{put_all, raised};
 use core_code_names::Setting;
@@ -49,8 +50,9 @@ pub fn put_while(
 {
     let place = lines.len() as u32;
     let again = place + 2 + turn_size(setting, inside, body);
-    let turned = is_turned(condition);
-    let past = again + asked_size(setting, condition) + loop_size(turned);
+    let test = TestKind::LoopEnd;
+    let turned = is_turned(test, condition);
+    let past = again + asked_size(setting, test, condition) + loop_size(turned);
     let tries = inside.mark.tries;
     let turn = Inside {
         enclosing: LoopPlaces { again, past, tries },
@@ -58,7 +60,7 @@ pub fn put_while(
     };
     put_all(lines, inside.mark, &[Instr::Jump(again), Instr::Turn])?;
     put_block(lines, setting, turn, body)?;
-    put_asked(lines, setting, inside.free, inside.mark, condition)?;
+    put_asked(lines, setting, inside.free, inside.mark, test, condition)?;
     put_loop_test(lines, raised(inside.mark, 1), turned, place + 1, past)
 }
 
