@@ -1,5 +1,5 @@
 -- What the calls of a CPU come to, in the words of its moments.
-use Rattle.std.proofs.Common.{◌≡◌, List, [], ◌∷◌, ◌++◌, true, Option, Some, IsTrue, refl, sym, subst}
+use Rattle.std.proofs.Common.{◌≡◌, List, [], ◌∷◌, ◌++◌, true, false, Option, Some, IsTrue, refl, sym, ◌∙◌, ap, subst}
 use Rattle.std.specs.Prelude.{option_to_list}
 use Rattle.std.proofs.lemmas.Bool.{false≢true}
 use Rattle.std.proofs.lemmas.List.{append-nil}
@@ -7,7 +7,7 @@ use Rattle.rtio_types.specs.declared.outcome.Outcome.{Outcome}
 use Rattle.rtio_types.specs.declared.request.Reply.{Reply}
 use Rattle.rtio_types.specs.declared.request.Request.{Request}
 use Rattle.core_isa.specs.Runs.{step}
-use Rattle.core_cpu.specs.Moments.{Moment, with_history, proceed, end_of, outcome_of, is_asking, is_ready}
+use Rattle.core_cpu.specs.Moments.{Moment, with_history, proceed, end_of, outcome_of, is_asking, is_playing, is_ready}
 use Rattle.core_cpu.specs.Settled.{CanAsk}
 use Rattle.core_cpu.specs.Standing.{Start, Stands, AsksNext, HasEnded}
 use Rattle.core_cpu.specs.declared.phase.Phase.{Phase}
@@ -20,6 +20,31 @@ ready_is Ready ready = refl
 ready_is (Playing left) ready = absurd (false≢true ready)
 ready_is (Asking purpose) ready = absurd (false≢true ready)
 ready_is (Over outcome) ready = absurd (false≢true ready)
+
+-- a phase that is over is none of the others
+pub over_isnt_ready : (phase : Phase) (outcome : Outcome) → phase ≡ Over outcome → is_ready phase ≡ false
+over_isnt_ready phase outcome over = ap is_ready over
+
+pub over_isnt_playing : (phase : Phase) (outcome : Outcome) → phase ≡ Over outcome → is_playing phase ≡ false
+over_isnt_playing phase outcome over = ap is_playing over
+
+abbrev outcome_in : Outcome → Phase → Outcome
+outcome_in other (Over outcome) = outcome
+outcome_in other phase = other
+
+-- and it has one outcome
+pub same_outcome : {one other : Outcome} → Over one ≡ Over other → one ≡ other
+same_outcome {one = one} same = ap (outcome_in one) same
+
+-- what comes of a moment that is over, where only one that is ready goes on
+pub over_stays : (old before now : Moment) (outcome : Outcome) → old.phase ≡ Over outcome → before ≡ old → (is_ready before.phase ≡ false → now ≡ before) → now ≡ old
+over_stays old before now outcome over same still =
+    still (ap (λ (m : Moment). is_ready m.phase) same ∙ over_isnt_ready old.phase outcome over) ∙ same
+
+pub over_isnt_gone_on : (old before now : Moment) (outcome : Outcome) → old.phase ≡ Over outcome → before ≡ old → (is_ready before.phase ≡ false → now ≡ before) → is_ready now.phase ≡ true → ⊥
+over_isnt_gone_on old before now outcome over same still ready =
+    let stays : now ≡ old = over_stays old before now outcome over same still in
+    false≢true (sym (ap (λ (m : Moment). is_ready m.phase) stays ∙ over_isnt_ready old.phase outcome over) ∙ ready)
 
 -- a moment that comes to the same with one request more at most
 pub stands_same : (start : Start) (asked : List Request) (replies : List Reply) (old new : Moment) (asks : Option Request)

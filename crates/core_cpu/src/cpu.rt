@@ -1,7 +1,8 @@
 // The processor.
 
 ghost use Rattle.std.specs.List.{All};
-ghost use Rattle.std.specs.Prelude.{◌≡◌, ◌<◌, ◌≤◌, ◌++◌, ◌∷◌, [], List, slice_get, true, false, Some, is_some, option_to_list, IfOk, OnErr, IsTrue};
+ghost use Rattle.std.specs.Prelude.{◌≡◌, ◌<◌, ◌≤◌, ◌++◌, ◌∷◌, [], List, slice_get, true, false, Some, is_some, option_to_list, IfOk, OnErr, IsTrue, Ok};
+ghost use Rattle.rtio_types.specs.declared.outcome.Outcome.{Outcome};
 ghost use Rattle.rtio_types.specs.declared.request.Request.{Request};
 ghost use Rattle.rtio_types.specs.declared.request.Reply.{Reply};
 ghost use Rattle.core_cpu.specs.Moments.{end_of, is_asking, is_playing, is_ready, outcome_of, proceed, with_history};
@@ -9,6 +10,7 @@ ghost use Rattle.core_cpu.specs.Standing.{Start, HasEntry, Stands, StopsAt, Want
 ghost use Rattle.core_cpu.specs.Settled.{CanAsk};
 ghost use Rattle.core_cpu.specs.Nearness.{nearness};
 ghost use Rattle.core_cpu.specs.declared.phase.Phase.TheVariants.{Over, Ready};
+ghost use Rattle.core_cpu.specs.declared.stop.Stop.TheVariants.{Ended};
 ghost use Rattle.core_isa.specs.Runs.{step, boot as booted};
 ghost use Rattle.core_isa.specs.declared.code.CodeFunction.{CodeFunction};
 
@@ -87,8 +89,9 @@ impl<'a> Cpu<'a> {
         })
     }
 
-    /// Goes on to the next request or the end. It takes memory only for an output while a recording is open and for a
-    /// list of a dataset; where there is none, it stands before that instruction, which begins again with the next call.
+    /// Goes on to the next request or the end, and behind the end tells it again. It takes memory only for an output while a
+    /// recording is open and for a list of a dataset; where there is none, it stands before that instruction, which begins
+    /// again with the next call.
     pub fn advance(&mut self, alloc: Global) -> Result<Stop, AllocError>
         requires { is_asking self.old.phase ≡ false }
         ensures code { self.new.code ≡ self.old.code }
@@ -101,6 +104,9 @@ impl<'a> Cpu<'a> {
         ensures memory { OnErr result (WantsMemory self.new) }
         ensures before { (start : Start) (asked : List Request) (replies : List Reply) →
             Stands start asked replies self.old → OnErr result (Stands start asked replies self.new) }
+        // Behind the end of its run it tells the same end again and stays as it is.
+        ensures over { (outcome : Outcome) → self.old.phase ≡ Over outcome →
+            (result ≡ Ok (Ended outcome)) × (self.new ≡ self.old) }
     {
         if self.plays() {
             if let Some(request) = self.play_on() {
@@ -189,6 +195,7 @@ impl<'a> Cpu<'a> {
         ensures playing { is_playing self.old.phase ≡ false → is_playing self.new.phase ≡ false }
         ensures nearer { nearness self.new ≤ nearness self.old }
         ensures ready { result ≡ is_ready self.new.phase }
+        ensures still { is_ready self.old.phase ≡ false → self.new ≡ self.old }
     {
         if self.ready() {
             self.hurry(alloc);
