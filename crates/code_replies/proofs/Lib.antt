@@ -3,3 +3,4 @@ pub mod Grows
 pub mod Kept
 pub mod Meant
 pub mod Runs
+pub mod Together

@@ -3,4 +3,4 @@
 
 mod laws;
 
-pub use laws::{runs_go_on_with_more_replies, runs_with_fitting_replies_are_meant};
+pub use laws::{runs_go_on_with_more_replies, runs_with_fitting_replies_are_meant, steps_go_on};

@@ -1,8 +1,7 @@
 -- The runs of code that does what a program does, and the program's meaning.
 use Rattle.std.proofs.Common.{◌≡◌, ℕ, suc, List, [], ◌∷◌, length, refl, sym, ap, ◌∙◌}
-use Rattle.std.specs.Prelude.{ℤ, Option, FitsSigned}
+use Rattle.std.specs.Prelude.{ℤ, FitsSigned}
 use Rattle.std.specs.Int.{w64}
-use Rattle.rtio_types.specs.declared.outcome.Outcome.{Outcome}
 use Rattle.rtio_types.specs.declared.request.Reply.{Reply}
 use Rattle.rtio_types.specs.declared.request.Reply.TheVariants as answer
 use Rattle.core_isa.specs.declared.code.Code.{Code}
@@ -12,16 +11,14 @@ use Rattle.core_cpu.specs.Moments.{outcome_of}
 use Rattle.core_cpu.specs.Standing.{HasEntry, Start as Beginning}
 use Rattle.kern_syntax.specs.Tree.{ParameterTree, ProgramTree}
 use Rattle.kern_arguments.specs.Fitting.{ArgumentsFit}
-use Rattle.timeline_sem.specs.declared.meant.MeantOutcome.{MeantOutcome}
-use Rattle.timeline_sem.specs.declared.meant.MeantOutcome.TheVariants as M
 use Rattle.timeline_sem.specs.Programs.{Meaning}
-use Rattle.code_follows.specs.Lawful.{machine_end, ran_as}
+use Rattle.code_follows.specs.Lawful.{ran_as}
 use Rattle.code_follows.specs.Stands.{AllNumbersFit, NumbersFit}
 use Rattle.code_law.specs.DoesAs.{HasFunctions}
 use Rattle.code_replies.specs.Laws.{RunsAreMeant}
 use Rattle.core_session.specs.Scripts.{HasNumber, HaveNumbers, IsScriptOf, next_of}
 use Rattle.core_session.specs.Sessions.{Account, account_of}
-use Rattle.kernel_session.specs.Meant.{TakesArguments, account_of_meaning, meant, outcome_of_meant, script_of}
+use Rattle.kernel_session.specs.Meant.{TakesArguments, account_of_meaning, meant, script_of}
 
 -- ---- arguments
 
@@ -52,15 +49,9 @@ numbers_fit (reply ∷ replies) have = (number_fits reply have.0, numbers_fit re
 
 -- ---- a run and the meaning
 
-same_outcome : (o : MeantOutcome) → outcome_of (machine_end o) ≡ outcome_of_meant o
-same_outcome M.Returned = refl
-same_outcome (M.Raised x) = refl
-same_outcome M.Budget = refl
-same_outcome M.Unanswered = refl
-
 -- a run that gives what a meaning does has its account
 pub account_as : (m : Meaning) (count : ℕ) → account_of (ran_as m count) ≡ account_of_meaning m
-account_as m count = ap (λ (o : Option Outcome). record { requests = m.requests; outcome = o; cursor = m.cursor }) (same_outcome m.outcome)
+account_as m count = refl
 
 module _ (program : ProgramTree) (code : Code) (agrees : RunsAreMeant program code) (start : Beginning) (takes : TakesArguments program start.function start.args) (from : FitsSigned w64 start.cursor) where
   -- a run gives what the meaning gives

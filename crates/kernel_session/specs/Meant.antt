@@ -1,17 +1,17 @@
 -- What a session of a program's meaning is.
-use Rattle.std.specs.Prelude.{◌≡◌, ℕ, List, ◌++◌, ℤ, slice_get, Option, Some, None}
+use Rattle.std.specs.Prelude.{◌≡◌, ℕ, List, ◌++◌, ℤ, slice_get, Option, Some}
 use Rattle.rtio_types.specs.declared.outcome.Outcome.{Outcome}
-use Rattle.rtio_types.specs.declared.outcome.Outcome.TheVariants as outcome
 use Rattle.rtio_types.specs.declared.request.Reply.{Reply}
 use Rattle.rtio_core.specs.declared.data.StartOf.{StartOf}
 use Rattle.rtio_core.specs.Entries.{last_cursor}
 use Rattle.rtio_core.specs.Core.{CoreState}
+use Rattle.core_cpu.specs.Moments.{outcome_of}
 use Rattle.core_cpu.specs.Standing.{Start as Beginning}
 use Rattle.kern_syntax.specs.Tree.{FunctionTree, ProgramTree}
 use Rattle.kern_arguments.specs.Fitting.{ArgumentsFit}
 use Rattle.timeline_sem.specs.declared.meant.MeantOutcome.{MeantOutcome}
-use Rattle.timeline_sem.specs.declared.meant.MeantOutcome.TheVariants as M
 use Rattle.timeline_sem.specs.Programs.{Meaning, meaning}
+use Rattle.code_follows.specs.Lawful.{machine_end}
 use Rattle.core_session.specs.Scripts.{Next, next_of}
 use Rattle.core_session.specs.Sessions.{Account, AddsSession, Answered, EndsAs, beginning_of, open_entries, replies_of}
 use Rattle.kernel_session.specs.Replays.{PlaysRecordings}
@@ -21,12 +21,9 @@ abbrev pub TakesArguments : ProgramTree → (function : ℕ) → (args : List �
 TakesArguments program function args =
     (f : FunctionTree) × (slice_get program function ≡ Some f) × ArgumentsFit f.parameters args
 
--- the outcome of a meaning; one that lacks a reply has none
+-- the outcome of a meaning, as the end of the machine that does so has it; one that lacks a reply has none
 abbrev pub outcome_of_meant : MeantOutcome → Option Outcome
-outcome_of_meant M.Returned = Some outcome.Returned
-outcome_of_meant (M.Raised x) = Some (outcome.Raised x)
-outcome_of_meant M.Budget = Some outcome.Budget
-outcome_of_meant M.Unanswered = None
+outcome_of_meant o = outcome_of (machine_end o)
 
 -- the requests, the outcome and the cursor of a meaning
 abbrev pub account_of_meaning : Meaning → Account
