@@ -4,7 +4,7 @@
 
 mod outputs;
 
-use crate::outputs::{Sent, outputs_sent};
+use crate::outputs::outputs_sent;
 use std::{env, io};
 
 fn main(rt: HostRuntime) -> io::Result<()> {
@@ -18,7 +18,8 @@ fn main(rt: HostRuntime) -> io::Result<()> {
         last = outputs_sent(rt.alloc(), sizes.outputs, sizes.distance);
     }
     match last {
-        Some(Sent { put_out, counter }) => {
+        Some(core) => {
+            let (put_out, counter) = (core.trace().len(), core.counter());
             println!(rt; "{put_out} outputs put out, counter {counter}")
         }
         None => println!(rt; "an output is lost or beyond the horizon, or there is no memory"),

@@ -1,7 +1,8 @@
 // Outputs that go through a core one after another.
 
-ghost use Rattle.std.specs.Prelude.{◌≡◌, ◌≤◌, IfOk, IfSome, OnSome, None, Some};
+ghost use Rattle.std.specs.Prelude.{◌≡◌, ◌≤◌, length, IfOk, IfSome, OnSome, None, Some};
 ghost use Rattle.rtio_core.specs.Entries.{open_session};
+ghost use Rattle.rtio_core.specs.Reply.{outputs_at};
 
 use rtio_core::{Ask, Config, Core, NamedList, StartOf, config_ok};
 use rtio_types::{EdgeList, Event, IntList, MU_PER_CYCLE, Outcome, Request};
@@ -10,24 +11,15 @@ use std::alloc::Global;
 // The last cycle that the counter of the core reaches.
 const HORIZON: u64 = 576_460_752_303_423_488;
 
-/// What was sent through.
-#[derive(Clone, Copy)]
-pub struct Sent {
-    /// How many outputs were put out.
-    pub put_out: u64,
-    /// The counter in the end, in cycles.
-    pub counter: u64,
-}
-
-/// Sends so many outputs through a new core, each so many cycles behind the one before: how many were put out. None where one
-/// is lost or would lie beyond the horizon, or there is no memory.
-pub fn outputs_sent(alloc: Global, count: u64, distance: u64) -> Option<Sent>
-    ensures { IfSome result (λ sent. sent.put_out ≡ count) }
+/// Sends so many outputs through a new core, each so many cycles behind the one before, and returns the core, which has put
+/// out so many events. None where one is lost or would lie beyond the horizon, or there is no memory.
+pub fn outputs_sent(alloc: Global, count: u64, distance: u64) -> Option<Core>
+    ensures { IfSome result (λ core. length (outputs_at core.config core.history core.counter) ≡ count) }
 {
     let mut core = opened(alloc)?;
     send_all(alloc, &mut core, count, distance)?;
     close(alloc, &mut core)?;
-    told(&core, count)
+    (core.trace().len() as u64 == count).then_some(core)
 }
 
 // Asks for all outputs, one after another.
@@ -51,18 +43,6 @@ fn close(alloc: Global, core: &mut Core) -> Option<()>
     core.end(alloc, 0, Outcome::Returned, 0).ok()?;
     core.leap(u64::MAX);
     Some(())
-}
-
-// What was put out, if it is so many events.
-fn told(core: &Core, count: u64) -> Option<Sent>
-    ensures { IfSome result (λ sent. sent.put_out ≡ count) }
-{
-    let put_out = core.trace().len() as u64;
-    if put_out != count {
-        return None;
-    }
-    let counter = core.counter();
-    Some(Sent { put_out, counter })
 }
 
 // The output of a number, if it isn't beyond the horizon: the first channel goes on and off in turn.
