@@ -1,10 +1,11 @@
 // What the program answers to the bytes of a command.
-ghost use Rattle.std.specs.Prelude.{◌≡◌, ◌≤◌, ◌<◌, ◌^◌, length, IfOk, IsTrue};
+ghost use Rattle.std.specs.Prelude.{◌≡◌, ◌≤◌, ◌<◌, ◌^◌, ℕ, List, length, IfOk, IsTrue};
 ghost use Rattle.kern_syntax.specs.TreeOf.{tree_of};
 ghost use Rattle.rtio_core.specs.Entries.{is_config_ok};
 ghost use Rattle.sim_report.specs.Ends.{HasEnded};
 ghost use Rattle.sim_words.specs.Asked.{IsAccepted};
-ghost use Rattle.sim_program.specs.Readings.{IsAnswerTo, IsRunAnswer, TellsOf};
+ghost use Rattle.sim_program.specs.Readings.{IsAnswerTo, IsReadAs, IsRunAnswer, TellsOf};
+ghost use Rattle.sim_program.specs.Texts.{IsKernel};
 
 use crate::finish::{Finish, finish_of};
 use crate::image::{Image, image_of};
@@ -13,6 +14,7 @@ use crate::refusal::code_refusal;
 use crate::report::{Form, text_of};
 use crate::run::{Run, run_image, run_main};
 use crate::wave::{Wave, wave_of};
+use core_code::Compiled;
 use core_image::encode;
 use kern_syntax::print;
 use sim_report::pends;
@@ -65,13 +67,26 @@ fn answer_by_run(
 {
     match built_of(alloc, text)? {
         Built::Refused(line) => Ok(Answer::Refused(line)),
-        Built::Ready(compiled) => {
-            let budget = options.budget;
-            let size = encode(alloc, compiled.code().code())?.len() as u64;
-            let run = run_main(alloc, &compiled, options)?;
-            answer_of_run(alloc, form, &run, budget, size)
-        }
+        Built::Ready(compiled) => answer_of_kernel(alloc, &compiled, options, form),
     }
+}
+
+// Runs the kernel that a text is and tells of its run.
+fn answer_of_kernel(
+    alloc: Global,
+    compiled: &Compiled,
+    options: Options,
+    form: Form,
+) -> Result<Answer, AllocError>
+    requires config { IsTrue (is_config_ok options.config) }
+    requires units { options.budget ≤ 1000000 }
+    ensures { (text : List ℕ) → IsReadAs text (tree_of compiled.now.0) → IsKernel (tree_of compiled.now.0)
+        → IfOk result (λ answer. IsRunAnswer options form text answer) }
+{
+    let budget = options.budget;
+    let size = encode(alloc, compiled.code().code())?.len() as u64;
+    let run = run_main(alloc, compiled, options)?;
+    answer_of_run(alloc, form, &run, budget, size)
 }
 
 // Writes the canonical text of a kernel.
