@@ -4,7 +4,7 @@ ghost use Rattle.std.specs.Prelude.{◌≡◌, IfSome, OnSome, None, Some};
 ghost use Rattle.rtio_core.specs.Entries.{open_session};
 
 use rtio_core::{Ask, Config, Core, NamedList, StartOf, config_ok};
-use rtio_types::{EdgeList, Event, IntList, MU_PER_CYCLE, Outcome, Request};
+use rtio_types::{EdgeList, Event, IntList, Outcome, Request, reading};
 use std::alloc::Global;
 
 // The last cycle that the counter of the core reaches.
@@ -58,7 +58,7 @@ fn output_of(number: u64) -> Option<Event>
         channel: 0,
         address: 0,
         value: if number % 2 == 0 { 1 } else { 0 },
-        stamp: (cycle * MU_PER_CYCLE) as i64,
+        stamp: reading(cycle) as i64,
     })
 }
 

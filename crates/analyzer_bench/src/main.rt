@@ -28,7 +28,7 @@ fn main(rt: HostRuntime) -> io::Result<()> {
     }
 }
 
-/// How many outputs, what is done with their dump, and how often.
+// How many outputs, what is done with their dump, and how often.
 #[derive(Clone, Copy)]
 struct Words {
     outputs: u64,

@@ -19,7 +19,7 @@ use Rattle.core_isa.specs.declared.code.CodeLine.{CodeLine}
 use Rattle.core_isa.specs.declared.instr.Instr.TheVariants as I
 use Rattle.core_isa.specs.Machine.{Frame, Machine, Next, goes}
 use Rattle.core_isa.specs.Steps.{act, on_some, call_if, enter, without_arguments}
-use Rattle.core_isa.specs.Runs.{counted, step, step_at}
+use Rattle.core_isa.specs.Runs.{counted, step, step_by}
 use Rattle.core_isa.specs.WellAsked.{RepliesFit}
 use Rattle.code_follows.specs.Stands.{Around, Opening, holding, Setting, Suits, SlotsAdd, IsOpenedBelow, machine_at, slots_of, HasNames, Fits64, Agrees, Leads, Comes, ComesToRaise, IsReturn, result_operands, EndsWith}
 use Rattle.code_follows.specs.Functions.{body_of, Enters, end_instrs, called}
@@ -34,7 +34,7 @@ module _ (given : List Reply) (code : Code) where
   pub step_return : (m : Machine) → IsReturn (slice_get code.lines m.top.place) → step code m ≡ act code I.Return (counted m)
   step_return m r = by_line (slice_get code.lines m.top.place) r
     where
-      by_line : (o : Option CodeLine) → IsReturn o → step_at code o m ≡ act code I.Return (counted m)
+      by_line : (o : Option CodeLine) → IsReturn o → step_by code o m ≡ act code I.Return (counted m)
       by_line None r = absurd r
       by_line (Some l) r = ap (λ i. act code i (counted m)) r
 

@@ -8,7 +8,7 @@ use Rattle.core_isa.specs.declared.instr.Instr.{Instr}
 use Rattle.core_isa.specs.Machine as X
 use Rattle.core_isa.specs.Machine.{Machine, Next, goes, ends, raise}
 use Rattle.core_isa.specs.Steps.{act}
-use Rattle.core_isa.specs.Runs.{go_on, steps, step, step_at, counted}
+use Rattle.core_isa.specs.Runs.{go_on, steps, step, step_by, counted}
 use Rattle.code_follows.specs.Stands.{Around, Local, Loop, Setting, Leads, Comes, EndsAs, ReturnsIf, ComesToLoop, EndsEarly, EndsWith}
 use Rattle.code_follows.specs.Parts.{Stand}
 
@@ -26,7 +26,7 @@ module _ (given : List Reply) (code : Code) where
 
   -- an instruction that stands at the machine's place is what it does next
   pub at_instr : (m : Machine) (i : Instr) (rest : List Instr) → Stand code.lines m.top.place (i ∷ rest) → step code m ≡ act code i (counted m)
-  at_instr m i rest stands = ap (λ o. step_at code o m) stands.1 ∙ ap (λ j. act code j (counted m)) stands.2
+  at_instr m i rest stands = ap (λ o. step_by code o m) stands.1 ∙ ap (λ j. act code j (counted m)) stands.2
 
   pub leads_instr : (m : Machine) (i : Instr) (rest : List Instr) → Stand code.lines m.top.place (i ∷ rest) → Leads given code (goes m) (act code i (counted m))
   leads_instr m i rest stands = leads_step m _ (at_instr m i rest stands)

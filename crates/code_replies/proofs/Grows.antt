@@ -14,7 +14,7 @@ use Rattle.core_isa.specs.declared.code.CodeLine.{CodeLine}
 use Rattle.core_isa.specs.declared.instr.Instr.{Instr}
 use Rattle.core_isa.specs.declared.instr.Instr.TheVariants as I
 use Rattle.core_isa.specs.Machine.{HandlerPoint, Frame, OpenRecording, Machine, Next, goes, ends, stuck, with_operands, with_slots, at_place, next, push, raise, exception_of, ask_then}
-use Rattle.core_isa.specs.Runs.{counted, step_at, step, go_on, steps}
+use Rattle.core_isa.specs.Runs.{counted, step_by, step, go_on, steps}
 use Rattle.core_isa.specs.Steps.{on_one, on_two, on_some, push_or_raise, array_at, with_array, index_in, store_slot, index_or_raise, load_at, store_at, submit_or_collect, event_at, output, ask_number, ask_only, play, open_recording, save_request, save_recording, enter_if, call_if, call, leave, return_from, end_try, jump_if_zero, named, act}
 use Rattle.core_isa.proofs.Lighter.{first_any, two_any, some_any}
 use Rattle.code_replies.proofs.Kept.{BeginsWith, Keeps, StaysKept, raise_keeps, unit_keeps, ask_keeps, number_keeps, only_keeps, play_keeps}
@@ -280,7 +280,7 @@ module _ (first : List Request) (code : Code) where
   pub step_keeps : (m : Machine) → Keeps first m → StaysKept first (step code m)
   step_keeps m within = by_line (slice_get code.lines m.top.place)
     where
-      by_line : (o : Option CodeLine) → StaysKept first (step_at code o m)
+      by_line : (o : Option CodeLine) → StaysKept first (step_by code o m)
       by_line None = tt
       by_line (Some line) = act_keeps first code (counted m) within line.instr
 

@@ -6,7 +6,7 @@ use Rattle.rtio_types.specs.declared.request.Reply.{Reply}
 use Rattle.core_isa.specs.declared.code.Code.{Code}
 use Rattle.core_isa.specs.declared.code.CodeLine.{CodeLine}
 use Rattle.core_isa.specs.Machine.{Machine, MachineEnd, Next, goes, ends, stuck, unanswered}
-use Rattle.core_isa.specs.Runs.{Ran, Gives, counted, step_at, step, go_on, steps, boot}
+use Rattle.core_isa.specs.Runs.{Ran, Gives, counted, step_by, step, go_on, steps, boot}
 use Rattle.core_isa.proofs.Decided.{found_one}
 use Rattle.code_replies.specs.Laws.{GoesOn, RepliesExtendRuns}
 use Rattle.code_replies.proofs.Extends.{more, Extends, act_both}
@@ -17,7 +17,7 @@ module _ (rest : List Reply) (code : Code) where
   step_both : (m : Machine) → Extends rest (step code m) (step code (more rest m))
   step_both m = by_line (slice_get code.lines m.top.place)
     where
-      by_line : (o : Option CodeLine) → Extends rest (step_at code o m) (step_at code o (more rest m))
+      by_line : (o : Option CodeLine) → Extends rest (step_by code o m) (step_by code o (more rest m))
       by_line None = tt
       by_line (Some line) = act_both rest code line.instr (counted m)
 

@@ -1,4 +1,5 @@
--- What stands in the fields of a dump, as the code reads it.
+-- Stated a second time for the proof's sake: the dump that bytes spell by Dumps.antt, as the code reads it.
+-- The places of wrong fields in DumpFields.antt rest on it too.
 use Rattle.std.specs.Prelude.{ℕ, zero, suc, ◌+◌, ◌*◌, ◌==◌, List, [], ◌∷◌, drop, slice_index, if◌then◌else◌}
 use Rattle.std.specs.Int.{from_le_bytes, w32, w64}
 use Rattle.rtio_types.specs.declared.event.Event.{Event}

@@ -14,13 +14,13 @@ use crate::dump::Dump;
 use rtio_types::Event;
 use std::alloc::{AllocError, Global};
 
-/// How many channels the board has.
+// How many channels the board has.
 const CHANNELS: u8 = 32;
 
-/// How many bytes the lines before those of the events have.
+// How many bytes the lines before those of the events have.
 const FIRST_LINES: usize = 1041;
 
-/// How many bytes the lines of an event have at most: 21 of a stamp with 19 digits, and 36 of data with 32.
+// How many bytes the lines of an event have at most: 21 of a stamp with 19 digits, and 36 of data with 32.
 const EVENT_LINES: usize = 57;
 
 /// The waveform of a dump, as a text that GTKWave and other viewers of VCD (Value Change Dump) open. The text is in this

@@ -26,7 +26,7 @@ fn main(rt: HostRuntime) -> io::Result<()> {
     }
 }
 
-/// How many outputs, how many cycles from one to the next, and how often all is done.
+// How many outputs, how many cycles from one to the next, and how often all is done.
 #[derive(Clone, Copy)]
 struct Sizes {
     outputs: u64,

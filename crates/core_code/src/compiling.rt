@@ -21,7 +21,7 @@ use kern_types::Checked;
 use std::alloc::{AllocError, Global};
 use std::marker::Model;
 
-/// The most nodes that a program may have.
+// The most nodes that a program may have.
 const MOST_NODES: u64 = 16_384;
 
 /// A checked program with its code, which does what the program does. Contracts see it as the pair of both.

@@ -11,8 +11,9 @@ use crate::expressions::{put_call, put_expression, put_method};
 use crate::pieces::{put_dropped, when};
 use crate::sizes::{arguments_size, call_size, expression_size};
 use core_code_names::Setting;
-use core_code_operations::{method_has_value, method_named, method_size};
+use core_code_operations::{method_has_value, method_size};
 use core_isa::{CodeLine, Mark};
+use kern_calls::method_named;
 use kern_syntax::Expr;
 use std::alloc::AllocError;
 

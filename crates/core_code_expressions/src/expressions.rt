@@ -16,18 +16,17 @@ ghost use Rattle.core_code_names.specs.SettingOf.{setting_of};
 ghost use Rattle.core_code_expressions.specs.ReadyCalls.{IsReadyCall, IsReadyMethod};
 
 use crate::pieces::{
-    load_instr, negated, put_and_end, put_and_test, put_filler, put_or_test, variable_type,
-    wrapped_type,
+    load_instr, negated, put_and_end, put_and_test, put_filler, put_or_test, wrapped_type,
 };
 use crate::sizes::expression_size;
 use core_code_lines::{put, raised};
 use core_code_names::Setting;
 use core_code_operations::{
-    Callee, callee_of, method_has_value, method_named, method_type, put_comparison,
-    put_method_instrs, put_not, put_operator, put_unary, text_in,
+    Callee, callee_of, method_has_value, put_comparison, put_method_instrs, put_not, put_operator,
+    put_unary, text_in,
 };
 use core_isa::{CodeLine, Instr, Mark};
-use kern_calls::{Operation, ValueType, binary_type, literal_type};
+use kern_calls::{Operation, ValueType, binary_type, literal_type, method_named, method_type};
 use kern_syntax::{Argument, Expr, Identifier};
 use std::alloc::AllocError;
 
@@ -63,7 +62,7 @@ pub fn put_expression(
         }
         Expr::Variable(name) => {
             put(lines, mark, load_instr(setting, name.bytes()))?;
-            Ok(variable_type(setting, name.bytes()))
+            Ok(setting.type_of_name(name.bytes()))
         }
         Expr::Index(array, index) => {
             put_expression(lines, setting, free, mark, index)?;

@@ -2,8 +2,6 @@
 
 ghost use Rattle.std.specs.Prelude.{◌≡◌, ◌+◌, ◌<◌, ◌^◌, ◌++◌, [], ◌∷◌, OnOk, length, pos};
 ghost use Rattle.kern_calls.specs.Calls.{look_up};
-ghost use Rattle.kern_calls.specs.Types.{type_of};
-ghost use Rattle.kern_syntax.specs.Tree.{variable};
 ghost use Rattle.kern_syntax.specs.TreeOf.{expression_of};
 ghost use Rattle.core_isa.specs.declared.instr.Instr.TheVariants as I;
 ghost use Rattle.code_forms.specs.ExpressionCode.{dropped, filled};
@@ -18,16 +16,6 @@ use core_isa::{CodeLine, Instr, Mark};
 use kern_calls::ValueType;
 use kern_syntax::{BinaryOperator, Expr, UnaryOperator};
 use std::alloc::AllocError;
-
-/// The type of a name of the function; int64 of another.
-pub fn variable_type(setting: &Setting<'_>, name: &[u8]) -> ValueType
-    ensures { result ≡ type_of (setting_of setting.now).scope (variable name.now) }
-{
-    match setting.name_kind(name) {
-        Some(kind) => kind,
-        None => ValueType::Int64,
-    }
-}
 
 /// The instruction that leaves the value of a name: 0 for what isn't a number.
 pub fn load_instr(setting: &Setting<'_>, name: &[u8]) -> Instr

@@ -9,13 +9,12 @@ ghost use Rattle.code_forms.specs.Operations.{call_has_value};
 ghost use Rattle.code_forms.specs.Sizes.{arguments_size, call_size, expression_size, unless};
 ghost use Rattle.core_code_names.specs.SettingOf.{setting_of};
 
-use crate::pieces::{negated, unless, variable_type, wrapped_type};
+use crate::pieces::{negated, unless, wrapped_type};
 use core_code_names::Setting;
 use core_code_operations::{
-    Callee, callee_of, comparison_size, method_has_value, method_named, method_size, method_type,
-    wrapped_size,
+    Callee, callee_of, comparison_size, method_has_value, method_size, wrapped_size,
 };
-use kern_calls::{ValueType, binary_type, literal_type};
+use kern_calls::{ValueType, binary_type, literal_type, method_named, method_type};
 use kern_syntax::{Argument, Expr};
 
 /// How long the code of an expression is, and its type.
@@ -45,7 +44,7 @@ pub fn expression_size(setting: &Setting<'_>, e: &Expr) -> Measure
         },
         Expr::Variable(name) => Measure {
             size: 1,
-            kind: variable_type(setting, name.bytes()),
+            kind: setting.type_of_name(name.bytes()),
         },
         Expr::Index(_, index) => Measure {
             size: expression_size(setting, index).size + 1,

@@ -28,7 +28,8 @@ pub struct Setting<'a> {
 impl<'a> Setting<'a> {
     ghost use Rattle.std.specs.Prelude.{◌≡◌, option_and_then};
     ghost use Rattle.kern_calls.specs.Calls.{look_up};
-    ghost use Rattle.kern_calls.specs.Types.{function_named};
+    ghost use Rattle.kern_calls.specs.Types.{function_named, type_of};
+    ghost use Rattle.kern_syntax.specs.Tree.{variable};
     ghost use Rattle.code_forms.specs.Setting.{slot_of, length_of, index_of_text, index_of_function, has_value};
     ghost use Rattle.code_forms.specs.Setting.{slots_of_names};
     ghost use Rattle.kern_names.specs.ScopeOf.{program_of};
@@ -58,11 +59,21 @@ impl<'a> Setting<'a> {
         }
     }
 
-    /// The type of a name of the function.
+    /// The type of a name of the function, if it is one.
     pub fn name_kind(&self, name: &[u8]) -> Option<ValueType>
         ensures { result ≡ look_up (setting_of self.now).scope.names name.now }
     {
         self.names.kind(name)
+    }
+
+    /// The type of a name of the function; int64 of another.
+    pub fn type_of_name(&self, name: &[u8]) -> ValueType
+        ensures { result ≡ type_of (setting_of self.now).scope (variable name.now) }
+    {
+        match self.names.kind(name) {
+            Some(kind) => kind,
+            None => ValueType::Int64,
+        }
     }
 
     /// The first slot of a name of the function; of another name, the first slot behind all of them.

@@ -3,7 +3,7 @@
 ghost use Rattle.std.specs.Prelude.{◌≡◌, length};
 ghost use Rattle.std.specs.Option.{option_to_list};
 ghost use Rattle.kern_calls.specs.Calls.{builtin_named};
-ghost use Rattle.kern_calls.specs.Types.{call_type, result_type};
+ghost use Rattle.kern_calls.specs.Types.{call_type};
 ghost use Rattle.kern_syntax.specs.TreeOf.{arguments_of};
 ghost use Rattle.timeline_sem.specs.Expressions.{text_in};
 ghost use Rattle.code_forms.specs.Operations.{array_argument, call_has_value, call_instrs, data_instr, length_instr, builtin_instrs, takes_numbers};
@@ -13,8 +13,8 @@ use crate::arguments::{array_argument, text_in};
 use core_code_lines::put_all;
 use core_code_names::Setting;
 use core_isa::{CodeLine, Instr, Mark};
-use kern_calls::{Builtin, ValueType, builtin_named, declared_type};
-use kern_syntax::{Argument, DeclaredType};
+use kern_calls::{Builtin, ValueType, builtin_named, result_type};
+use kern_syntax::Argument;
 use std::alloc::AllocError;
 
 /// What a call by name becomes.
@@ -129,15 +129,5 @@ fn length_instr(setting: &Setting<'_>, arguments: &[Argument]) -> Instr
     match array_argument(setting, arguments) {
         Some(row) => Instr::Const(i64::from(row.length)),
         None => Instr::Const(0),
-    }
-}
-
-/// The type of a call's value; int64 where it has none.
-pub fn result_type(declared: Option<DeclaredType>) -> ValueType
-    ensures { result ≡ result_type declared }
-{
-    match declared {
-        Some(declared) => declared_type(declared),
-        None => ValueType::Int64,
     }
 }

@@ -1,9 +1,7 @@
 // Calls of methods.
 
-ghost use Rattle.std.specs.Prelude.{◌≡◌, ℕ, ◌+◌, ◌<◌, ◌^◌, ◌++◌, [], ◌∷◌, OnOk, length, option_and_then};
+ghost use Rattle.std.specs.Prelude.{◌≡◌, ℕ, ◌+◌, ◌<◌, ◌^◌, ◌++◌, [], ◌∷◌, OnOk, length};
 ghost use Rattle.kern_syntax.specs.Tree.{Bytes};
-ghost use Rattle.kern_calls.specs.Calls.{method_named, operation_result};
-ghost use Rattle.kern_calls.specs.Types.{result_type};
 ghost use Rattle.core_isa.specs.declared.instr.Instr.TheVariants as I;
 ghost use Rattle.code_forms.specs.Lines.{straight};
 ghost use Rattle.code_forms.specs.Operations.{count_instrs, gate_instrs, lead, method_has_value, method_instrs, operation_instrs, out_instrs, pulse_instrs};
@@ -11,25 +9,14 @@ ghost use Rattle.code_forms.specs.Setting as C;
 ghost use Rattle.code_ranges.specs.Room.{HasRoom};
 ghost use Rattle.core_code_names.specs.SettingOf.{setting_of};
 
-use crate::calls::result_type;
 use core_code_lines::put_all;
 use core_code_names::Setting;
 use core_isa::{CodeLine, Instr, Mark};
-use kern_calls::{Operation, ValueType, method_of, object_named};
+use kern_calls::Operation;
 use std::alloc::AllocError;
 
-/// How far ahead of the counter the cursor is set over a reading, in mu (the ARTIQ manual's `break_realtime`).
+// How far ahead of the counter the cursor is set over a reading, in mu (the ARTIQ manual's `break_realtime`).
 const LEAD: i64 = 125_000;
-
-/// The method of a name of the object of a name, if there are both.
-pub fn method_named(object: &[u8], name: &[u8]) -> Option<Operation>
-    ensures { result ≡ method_named object.now name.now }
-{
-    match object_named(object) {
-        Some(object) => method_of(object, name),
-        None => None,
-    }
-}
 
 /// Whether a call of a method leaves a value.
 pub fn method_has_value(method: Option<Operation>) -> bool
@@ -38,16 +25,6 @@ pub fn method_has_value(method: Option<Operation>) -> bool
     match method {
         Some(operation) => operation.result().is_some(),
         None => false,
-    }
-}
-
-/// The type of a method's value; int64 where it has none.
-pub fn method_type(method: Option<Operation>) -> ValueType
-    ensures { result ≡ result_type (option_and_then operation_result method) }
-{
-    match method {
-        Some(operation) => result_type(operation.result()),
-        None => ValueType::Int64,
     }
 }
 

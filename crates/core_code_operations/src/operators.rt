@@ -1,26 +1,15 @@
 // The instructions of operators.
 
 ghost use Rattle.std.specs.Prelude.{◌≡◌, ◌+◌, ◌++◌, [], ◌∷◌, OnOk, length};
-ghost use Rattle.kern_calls.specs.Types.{bits_of};
 ghost use Rattle.code_forms.specs.Lines.{straight};
 ghost use Rattle.code_forms.specs.Operations.{operator_instr, operator_instrs, unary_instrs, comparison_instrs, not_instrs, wrapping};
 ghost use Rattle.code_ranges.specs.Room.{HasRoom};
 
 use core_code_lines::put_all;
 use core_isa::{CodeLine, Instr, Mark};
-use kern_calls::ValueType;
+use kern_calls::{ValueType, bits_of};
 use kern_syntax::{BinaryOperator, Comparison, UnaryOperator};
 use std::alloc::AllocError;
-
-// The number of bits at which values of a type wrap.
-fn bits_of(kind: ValueType) -> u8
-    ensures { result ≡ bits_of kind }
-{
-    match kind {
-        ValueType::Int32 => 32,
-        _ => 64,
-    }
-}
 
 // The instruction of an operator at a type.
 fn operator_instr(operator: BinaryOperator, kind: ValueType) -> Instr

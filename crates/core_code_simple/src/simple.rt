@@ -14,7 +14,6 @@ use crate::leaves::put_behind_handlers;
 use core_code_expressions::{put_effect, put_expression};
 use core_code_lines::{put, put_all, raised};
 use core_code_names::Setting;
-use core_code_sizes::type_of_name;
 use core_isa::{CodeLine, Instr};
 use kern_calls::ValueType;
 use kern_syntax::{Augment, Expr, StmtKind, Target};
@@ -210,7 +209,7 @@ fn put_augmented(
     let slot = setting.slot(name);
     put(lines, inside.mark, Instr::Load(slot))?;
     put_expression(lines, setting, inside.free, raised(inside.mark, 1), e)?;
-    let kind = type_of_name(setting, name);
+    let kind = setting.type_of_name(name);
     put_augment(lines, inside, augment_instr(operator), kind, slot)
 }
 

@@ -1,17 +1,10 @@
 -- Parts of the sizes of statements, as they are counted.
-use Rattle.std.specs.Prelude.{ℕ, ◌+◌, unwrap_or}
-use Rattle.kern_syntax.specs.Tree.{Bytes, Expression, Statement, if_then, while_do, for_range, parallel, sequential, record_as, try_do, Block, Otherwise}
-use Rattle.kern_calls.specs.Calls.{look_up}
-use Rattle.kern_calls.specs.declared.types.ValueType.{ValueType}
-use Rattle.kern_calls.specs.declared.types.ValueType.TheVariants.{Int64}
+use Rattle.std.specs.Prelude.{ℕ, ◌+◌}
+use Rattle.kern_syntax.specs.Tree.{Expression, Statement, if_then, while_do, for_range, parallel, sequential, record_as, try_do, Block, Otherwise}
 use Rattle.code_forms.specs.declared.test_kind.TestKind.TheVariants.{Branch}
 use Rattle.code_forms.specs.Conditions.{is_turned, asked, test_size}
 use Rattle.code_forms.specs.Setting.{Setting}
 use Rattle.code_forms.specs.Sizes.{block_size, exit_size, expression_size, otherwise_size, statement_size}
-
--- the type of a name; int64 of another
-abbrev pub name_type : Setting → Bytes → ValueType
-name_type setting x = unwrap_or (look_up setting.scope.names x) Int64
 
 -- how many instructions a statement without a block has; 0 for one with a block
 abbrev pub simple_size : Setting → (tries kept : ℕ) → Statement → ℕ

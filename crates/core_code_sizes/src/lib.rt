@@ -4,5 +4,4 @@
 mod simple;
 mod sizes;
 
-pub use simple::type_of_name;
 pub use sizes::{block_size, branch_size, statement_size};

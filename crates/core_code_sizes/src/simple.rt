@@ -4,12 +4,11 @@ ghost use Rattle.std.specs.Prelude.{◌≡◌, ◌+◌, ◌<◌, ◌^◌};
 ghost use Rattle.kern_syntax.specs.TreeOf.{expression_of, statement_of};
 ghost use Rattle.code_forms.specs.Sizes.{return_size, stored_size};
 ghost use Rattle.core_code_names.specs.SettingOf.{setting_of};
-ghost use Rattle.core_code_sizes.specs.Parts.{name_type, simple_size};
+ghost use Rattle.core_code_sizes.specs.Parts.{simple_size};
 
 use core_code_expressions::{effect_size, expression_size};
 use core_code_names::Setting;
 use core_code_operations::wrapped_size;
-use kern_calls::ValueType;
 use kern_syntax::{Expr, StmtKind, Target};
 
 /// How many instructions the code of a statement without a block has, under so many handlers, of which so many stood before
@@ -29,7 +28,7 @@ pub fn simple_size(setting: &Setting<'_>, tries: u32, kept: u32, statement: &Stm
             expression_size(setting, e).size + expression_size(setting, index).size + 1
         }
         StmtKind::Augmented(Target::Variable(name), _, e) => {
-            let kind = type_of_name(setting, name.bytes());
+            let kind = setting.type_of_name(name.bytes());
             expression_size(setting, e).size + wrapped_size(kind) + 2
         }
         StmtKind::Augmented(Target::Element(_, index), _, e) => {
@@ -51,13 +50,6 @@ fn return_size(setting: &Setting<'_>, value: &Option<Expr>) -> u32
         Some(e) => expression_size(setting, e).size + u32::from(!setting.value),
         None => u32::from(setting.value),
     }
-}
-
-/// The type of a name; int64 of another.
-pub fn type_of_name(setting: &Setting<'_>, name: &[u8]) -> ValueType
-    ensures { result ≡ name_type (setting_of setting.now) name.now }
-{
-    setting.name_kind(name).unwrap_or(ValueType::Int64)
 }
 
 ghost use Rattle.std.specs.Prelude.{◌*◌, length, map};

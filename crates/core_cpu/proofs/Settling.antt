@@ -11,7 +11,7 @@ use Rattle.rtio_types.specs.Replies.{raised_by}
 use Rattle.rtio_types.specs.declared.request.Reply.TheVariants as R
 use Rattle.core_isa.specs.Machine.{Machine, Next, goes, raise_or}
 use Rattle.core_isa.specs.Marks.{Marked, HasOrder}
-use Rattle.core_isa.specs.Runs.{boot, counted, step, step_at}
+use Rattle.core_isa.specs.Runs.{boot, counted, step, step_by}
 use Rattle.core_isa.specs.Sound.{IsSound, StaysSound}
 use Rattle.core_isa.specs.Steps.{act}
 use Rattle.core_isa.specs.declared.code.Code.{Code}
@@ -135,7 +135,7 @@ pub steps_turn : (code : Code) (old new : Held) (course : Course) (line : CodeLi
 steps_turn code old new course line found turns =
     record {
       leads = λ more before.
-          ap (λ o. step_at code o (with_history old.machine more before)) found ∙ turns.leads more before;
+          ap (λ o. step_by code o (with_history old.machine more before)) found ∙ turns.leads more before;
       waits = turns.waits;
       width = turns.width;
     }

@@ -4,11 +4,10 @@ ghost use Rattle.std.specs.Prelude.{◌≡◌, ◌<◌, ◌≤◌, nat_lt, lengt
 ghost use Rattle.core_image.specs.AcceptedTests.{narrow};
 ghost use Rattle.core_isa.specs.Marks.{after};
 ghost use Rattle.core_isa.specs.MarkTests.{is_mark};
-ghost use Rattle.rtio_types.specs.Board.{kind_of_channel, has_address};
 
 use crate::effect::{effect_of, is_live_one, takes_unit};
 use core_isa::{Code, CodeFunction, CodeLine, Instr, Mark};
-use rtio_types::{ChannelKind, kind_of};
+use rtio_types::{ChannelKind, has_address, is_input, kind_of};
 
 // A mark that a place is to have; its numbers may be too large for any mark.
 #[derive(Clone, Copy, Debug, PartialEq, Eq)]
@@ -64,18 +63,6 @@ fn is_same(wanted: WideMark, found: Mark) -> bool
     wanted.height == found.height as u16
         && wanted.tries == found.tries as u16
         && wanted.rec == found.rec as u16
-}
-
-// Whether a channel of the board has an address.
-fn is_address(channel: u8, address: u8) -> bool
-    ensures { result ≡ has_address (kind_of_channel channel) address }
-{
-    match kind_of(channel) {
-        Some(ChannelKind::Out) => address == 0,
-        Some(ChannelKind::OutRaw) => true,
-        Some(ChannelKind::Input) => address == 2,
-        None => false,
-    }
 }
 
 /// A place of some code, in a function that extends up to an end.
@@ -157,9 +144,9 @@ impl Spot<'_> {
             Instr::LoadAt(slot, count) | Instr::StoreAt(slot, count) => self.is_array(slot, count),
             Instr::Fill(slot, count) => self.is_array(slot, count),
             Instr::Shl(width) | Instr::Shr(width) => width == 32 || width == 64,
-            Instr::Out(channel, address) => is_address(channel, address),
+            Instr::Out(channel, address) => has_address(channel, address),
             Instr::OutTo(channel) => matches!(kind_of(channel), Some(ChannelKind::OutRaw)),
-            Instr::Edge(channel) => matches!(kind_of(channel), Some(ChannelKind::Input)),
+            Instr::Edge(channel) => is_input(channel),
             Instr::Record(name) | Instr::Play(name) | Instr::Handle(name) => self.is_named(name),
             Instr::Erase(name) | Instr::DataInt(name) => self.is_named(name),
             Instr::DataList(name, slot, count) => self.is_named(name) && self.is_array(slot, count),

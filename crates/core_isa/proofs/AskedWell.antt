@@ -9,7 +9,7 @@ use Rattle.core_isa.specs.declared.code.Code.{Code}
 use Rattle.core_isa.specs.declared.code.CodeLine.{CodeLine}
 use Rattle.core_isa.specs.Machine.{Machine, Next, goes, ends, stuck}
 use Rattle.core_isa.specs.Marks.{OperandsExist, IsRightPlace, Marked}
-use Rattle.core_isa.specs.Runs.{Ran, Gives, counted, step_at, step, go_on, steps, boot}
+use Rattle.core_isa.specs.Runs.{Ran, Gives, counted, step_by, step, go_on, steps, boot}
 use Rattle.core_isa.specs.WellAsked.{RepliesFit, AsksWell}
 use Rattle.core_isa.proofs.Askable.{Askable, StaysAskable}
 use Rattle.core_isa.proofs.Asked.{act_asks}
@@ -19,7 +19,7 @@ use Rattle.core_isa.proofs.Decided.{found_one}
 step_asks : (given : List Reply) (code : Code) → Marked code → (m : Machine) → Askable given m → StaysAskable given (step code m)
 step_asks given code marked m askable = by_line (slice_get code.lines m.top.place) refl
   where
-    by_line : (o : Option CodeLine) → slice_get code.lines m.top.place ≡ o → StaysAskable given (step_at code o m)
+    by_line : (o : Option CodeLine) → slice_get code.lines m.top.place ≡ o → StaysAskable given (step_by code o m)
     by_line None gone = tt
     by_line (Some line) found =
         let here : IsRightPlace code m.top.place =

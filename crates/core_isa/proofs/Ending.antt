@@ -7,7 +7,7 @@ use Rattle.core_isa.specs.declared.code.CodeLine.{CodeLine}
 use Rattle.core_isa.specs.Machine.{Machine, Next, goes, ends, stuck}
 use Rattle.core_isa.specs.Marks.{takes_unit_first, MarksFollow, IsRightPlace, Marked, HasOrder}
 use Rattle.core_isa.specs.Falling.{first_number, second_number, Falls, StepsFall, RunsEnd, HasOneRun}
-use Rattle.core_isa.specs.Runs.{Ran, Gives, counted, step_at, step, go_on, steps, boot}
+use Rattle.core_isa.specs.Runs.{Ran, Gives, counted, step_by, step, go_on, steps, boot}
 use Rattle.core_isa.specs.Sound.{IsSound, StaysSound}
 use Rattle.core_isa.proofs.Decided.{found_one}
 use Rattle.core_isa.proofs.Frames.{boot_sound}
@@ -19,7 +19,7 @@ use Rattle.core_isa.proofs.Weights.{IsNearer}
 pub step_nearer : (code : Code) → Marked code → (m : Machine) → IsNearer code m (step code m)
 step_nearer code marked m = by_line (slice_get code.lines m.top.place) refl
   where
-    by_line : (o : Option CodeLine) → slice_get code.lines m.top.place ≡ o → IsNearer code m (step_at code o m)
+    by_line : (o : Option CodeLine) → slice_get code.lines m.top.place ≡ o → IsNearer code m (step_by code o m)
     by_line None gone = tt
     by_line (Some line) found =
         let within : m.top.place < length code.lines = slice_get_within code.lines m.top.place line found in

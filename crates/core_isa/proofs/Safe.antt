@@ -8,7 +8,7 @@ use Rattle.core_isa.specs.declared.code.CodeLine.{CodeLine}
 use Rattle.core_isa.specs.declared.code.Mark.{Mark}
 use Rattle.core_isa.specs.Machine.{Machine, Next, goes, ends, stuck}
 use Rattle.core_isa.specs.Marks.{mark_at, IsRight, IsRightPlace, Marked, HasOrder}
-use Rattle.core_isa.specs.Runs.{counted, step_at, step, go_on, steps, boot}
+use Rattle.core_isa.specs.Runs.{counted, step_by, step, go_on, steps, boot}
 use Rattle.core_isa.specs.Sound.{IsSound, StaysSound, BeginsSound, NeverStuck}
 use Rattle.core_isa.proofs.Acts.{act_sound}
 use Rattle.core_isa.proofs.Decided.{found_one}
@@ -41,7 +41,7 @@ step_sound code order marked m sound =
     subst₂ (λ function. λ mark. IsRight code m.top.place function (record { instr = here.line.instr; mark = mark })) f mark here.right
     in
     subst
-    (λ o. StaysSound code (step_at code o m))
+    (λ o. StaysSound code (step_by code o m))
     (sym here.at_place)
     (act_sound
     code

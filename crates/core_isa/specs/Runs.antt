@@ -13,13 +13,13 @@ abbrev pub counted : Machine → Machine
 counted m = record m { steps = min (m.steps + 1) (2 ^ 64 - 1) }
 
 -- one step by the line at the machine's place, if there is one
-abbrev pub step_at : Code → Option CodeLine → Machine → Next
-step_at code None m = stuck
-step_at code (Some line) m = act code line.instr (counted m)
+abbrev pub step_by : Code → Option CodeLine → Machine → Next
+step_by code None m = stuck
+step_by code (Some line) m = act code line.instr (counted m)
 
 -- one step: the instruction at the place of the frame that runs
 abbrev pub step : Code → Machine → Next
-step code m = step_at code (slice_get code.lines m.top.place) m
+step code m = step_by code (slice_get code.lines m.top.place) m
 
 -- goes on where a step leads on
 abbrev pub go_on : Next → (Machine → Next) → Next

@@ -5,7 +5,7 @@ use desk_rule::Booked;
 use std::alloc::{AllocFailed, Global};
 use std::marker::Model;
 
-// Contracts see the box as what is in it.
+/// Contracts see the box as what is in it.
 #[derive(Drop)]
 pub(crate) struct Boxed<T> {
     inside: Box<T>,
@@ -30,7 +30,7 @@ impl<T: Booked> Booked for Boxed<T> {
 }
 
 impl<T> Boxed<T> {
-    // At `Err` there was no memory, and the value comes back.
+    /// At `Err` there was no memory, and the value comes back.
     pub(crate) fn new(alloc: Global, value: T) -> Result<Boxed<T>, T>
         ensures boxed { IfOk result (λ b. b ≡ value) }
         ensures back { IfErr result (λ x. x ≡ value) }

@@ -3,7 +3,7 @@ use crate::view::{Booked, View};
 use atomic_table::{Join, Play, Split};
 use std::marker::PhantomData;
 
-// A new chair, made by the first one.
+/// A new chair, made by the first one.
 pub(crate) struct Make;
 
 impl<A, F> Split<View<A, F>> for Make {
@@ -14,7 +14,7 @@ impl<A, F> Split<View<A, F>> for Make {
     ghost right = { new_chair };
 }
 
-// A try to take the value, by a compare-exchange from 0.
+/// A try to take the value, by a compare-exchange from 0.
 pub(crate) struct Take<T> {
     of: PhantomData<T>,
 }
@@ -25,7 +25,7 @@ impl<T: Booked> Play<Option<T>, View<T::Act, T::Fixed>> for Take<T> {
     ghost then = { Tried T.history T.fixed };
 }
 
-// The value goes home, by a store of 0.
+/// The value goes home, by a store of 0.
 pub(crate) struct Put<T> {
     of: PhantomData<T>,
 }
@@ -36,7 +36,7 @@ impl<T: Booked> Play<Option<T>, View<T::Act, T::Fixed>> for Put<T> {
     ghost then = { PutBack T.history };
 }
 
-// A note, with all that the chair has seen.
+/// A note, with all that the chair has seen.
 pub(crate) struct Tell;
 
 impl<A, F> Split<View<A, F>> for Tell {
@@ -47,7 +47,7 @@ impl<A, F> Split<View<A, F>> for Tell {
     ghost right = { told };
 }
 
-// The records of another seat, a note or a chair, are added to one's own.
+/// The records of another seat, a note or a chair, are added to one's own.
 pub(crate) struct Merge;
 
 impl<A, F> Join<View<A, F>> for Merge {
@@ -58,7 +58,7 @@ impl<A, F> Join<View<A, F>> for Merge {
     ghost spent = { spent };
 }
 
-// What a note told is seen, by a load after the note was joined.
+/// What a note told is seen, by a load after the note was joined.
 pub(crate) struct Settle;
 
 impl<S, A, F> Play<S, View<A, F>> for Settle {

@@ -1,4 +1,4 @@
-//! What holds of every text.
+// What holds of every text.
 
 ghost use Rattle.std.specs.Prelude.{◌≡◌, ℕ, ◌⊎◌, List, IsTrue};
 ghost use Rattle.serde_json.specs.Data.{Data};

@@ -34,7 +34,7 @@ pub enum StepForm {
 }
 
 impl StepForm {
-    /// The key that chooses the form.
+    // The key that chooses the form.
     fn key(self) -> &'static str
         ensures { result.now ≡ form_key self }
     {
@@ -49,7 +49,7 @@ impl StepForm {
         }
     }
 
-    /// It stands in the run alone.
+    // It stands in the run alone.
     fn is_of_run_alone(self) -> bool
         ensures { result ≡ of_run_alone self }
     {

@@ -1,6 +1,6 @@
-//! Reading blocks, and the statements that have blocks.
-//!
-//! The room of a statement is the number of blocks in one another that it may still hold.
+// Reading blocks, and the statements that have blocks.
+//
+// The room of a statement is the number of blocks in one another that it may still hold.
 
 ghost use Rattle.std.specs.Prelude.{◌≡◌, map};
 ghost use Rattle.kern_grammar.specs.BlockPlans.{block_of_lines, block_plan, is_line, line_plan, statement_plan};
@@ -40,14 +40,14 @@ pub fn block_at<'a>(
     }
 }
 
-/// A block of these statements.
+// A block of these statements.
 fn block_of_statements(statements: Vec<Stmt>) -> Block
     ensures { block_of result ≡ block_of_lines (map line_of_statement statements.items) }
 {
     Block { statements }
 }
 
-/// A block of one statement on the line of its header.
+// A block of one statement on the line of its header.
 fn one_line_at<'a>(
     alloc: Global,
     line: u32,
@@ -62,7 +62,7 @@ fn one_line_at<'a>(
     Ok((block_of_statements(statements), rest))
 }
 
-/// Indented lines, from the Indent to the Dedent.
+// Indented lines, from the Indent to the Dedent.
 #[cycle(blocks)]
 fn indented_at<'a>(
     alloc: Global,
@@ -78,7 +78,7 @@ fn indented_at<'a>(
     Ok((block_of_statements(statements), rest))
 }
 
-/// Whether a statement follows in a block, which a Dedent ends.
+// Whether a statement follows in a block, which a Dedent ends.
 fn begins_line(tokens: Tokens) -> bool
     ensures { result ≡ begins_with is_line (lexemes_left tokens.entry) }
 {
@@ -88,7 +88,7 @@ fn begins_line(tokens: Tokens) -> bool
     }
 }
 
-/// The statements of a block behind its first, and the first before them.
+// The statements of a block behind its first, and the first before them.
 #[cycle(blocks)]
 fn statements_at<'a>(
     alloc: Global,
@@ -110,7 +110,7 @@ fn statements_at<'a>(
     Ok((statements, rest))
 }
 
-/// A statement with its line.
+// A statement with its line.
 #[cycle(blocks)]
 fn statement_at<'a>(
     alloc: Global,
@@ -131,7 +131,7 @@ fn statement_at<'a>(
     }
 }
 
-/// A statement, whose blocks have so much room.
+// A statement, whose blocks have so much room.
 #[cycle(blocks)]
 fn any_statement_at<'a>(
     alloc: Global,
@@ -158,7 +158,7 @@ fn any_statement_at<'a>(
     }
 }
 
-/// A `while` behind its keyword.
+// A `while` behind its keyword.
 #[cycle(blocks)]
 fn while_at<'a>(
     alloc: Global,
@@ -175,7 +175,7 @@ fn while_at<'a>(
     Ok((Stmt { line, kind }, rest))
 }
 
-/// A `for` with one bound or two.
+// A `for` with one bound or two.
 fn for_kind(name: Identifier, bounds: Bounds, body: Block) -> StmtKind
     ensures { statement_of result ≡ for_range name (bounds_of bounds).0 (bounds_of bounds).1 (block_of body) }
 {
@@ -186,7 +186,7 @@ fn for_kind(name: Identifier, bounds: Bounds, body: Block) -> StmtKind
     }
 }
 
-/// A `with` by its item.
+// A `with` by its item.
 fn with_kind(item: WithItem, body: Block) -> StmtKind
     ensures { statement_of result ≡ with_statement item (block_of body) }
 {
@@ -197,7 +197,7 @@ fn with_kind(item: WithItem, body: Block) -> StmtKind
     }
 }
 
-/// A `for` behind its keyword.
+// A `for` behind its keyword.
 #[cycle(blocks)]
 fn for_at<'a>(
     alloc: Global,
@@ -211,7 +211,7 @@ fn for_at<'a>(
     for_bounds_at(alloc, room, line, name, rest)
 }
 
-/// The bounds and the block of a `for`.
+// The bounds and the block of a `for`.
 #[cycle(blocks)]
 fn for_bounds_at<'a>(
     alloc: Global,
@@ -229,7 +229,7 @@ fn for_bounds_at<'a>(
     }
 }
 
-/// The block of a `for`.
+// The block of a `for`.
 #[cycle(blocks)]
 fn for_body_at<'a>(
     alloc: Global,
@@ -248,7 +248,7 @@ fn for_body_at<'a>(
     Ok((Stmt { line, kind }, rest))
 }
 
-/// A `with` behind its keyword.
+// A `with` behind its keyword.
 #[cycle(blocks)]
 fn with_at<'a>(
     alloc: Global,
@@ -264,7 +264,7 @@ fn with_at<'a>(
     }
 }
 
-/// The block of a `with`.
+// The block of a `with`.
 #[cycle(blocks)]
 fn with_body_at<'a>(
     alloc: Global,

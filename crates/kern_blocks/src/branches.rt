@@ -1,4 +1,4 @@
-//! Reading the statements that have branches, `if` and `try`, from behind their keywords.
+// Reading the statements that have branches, `if` and `try`, from behind their keywords.
 
 ghost use Rattle.std.specs.Prelude.{◌≡◌, map, option_map};
 ghost use Rattle.kern_grammar.specs.BlockPlans.{elif_plan, else_plan, except_plan, handlers_of_lines, is_elif, is_else, is_except, line_plan, otherwise_of};
@@ -15,7 +15,7 @@ use kern_lexer::{Key, TokenKind};
 use kern_syntax::{Block, Elif, Expr, Handler, Stmt, StmtKind};
 use std::alloc::Global;
 
-/// An `if` with its branches.
+// An `if` with its branches.
 fn if_kind(condition: Expr, body: Block, branches: Vec<Elif>, last: Option<Block>) -> StmtKind
     ensures { statement_of result ≡ if_then (expression_of condition) (block_of body)
         (otherwise_of (map elif_line branches.items) (option_map block_of last)) }
@@ -42,7 +42,7 @@ pub fn if_at<'a>(
     Ok((Stmt { line, kind }, rest))
 }
 
-/// Whether an `elif` branch follows.
+// Whether an `elif` branch follows.
 fn begins_elif(tokens: Tokens) -> bool
     ensures { result ≡ begins_with is_elif (lexemes_left tokens.entry) }
 {
@@ -52,7 +52,7 @@ fn begins_elif(tokens: Tokens) -> bool
     }
 }
 
-/// The `elif` branches of an `if`.
+// The `elif` branches of an `if`.
 #[cycle(blocks)]
 fn elifs_at<'a>(
     alloc: Global,
@@ -72,7 +72,7 @@ fn elifs_at<'a>(
     Ok((branches, rest))
 }
 
-/// An `elif` branch with its line.
+// An `elif` branch with its line.
 #[cycle(blocks)]
 fn elif_at<'a>(
     alloc: Global,
@@ -94,7 +94,7 @@ fn elif_at<'a>(
     }
 }
 
-/// The condition and the block of an `elif` branch.
+// The condition and the block of an `elif` branch.
 #[cycle(blocks)]
 fn elif_parts_at<'a>(
     alloc: Global,
@@ -115,7 +115,7 @@ fn elif_parts_at<'a>(
     Ok((branch, rest))
 }
 
-/// The `else` branch of an `if`, or none. No `elif` follows here, since each was taken before.
+// The `else` branch of an `if`, or none. No `elif` follows here, since each was taken before.
 #[cycle(blocks)]
 fn else_at<'a>(
     alloc: Global,
@@ -138,7 +138,7 @@ fn else_at<'a>(
     }
 }
 
-/// The block of an `else` branch, behind the keyword.
+// The block of an `else` branch, behind the keyword.
 #[cycle(blocks)]
 fn else_block_at<'a>(
     alloc: Global,
@@ -152,7 +152,7 @@ fn else_block_at<'a>(
     Ok((Some(body), rest))
 }
 
-/// A `try` with its branches.
+// A `try` with its branches.
 fn try_kind(body: Block, handlers: Vec<Handler>) -> StmtKind
     ensures { statement_of result ≡ try_do (block_of body) (handlers_of_lines (map except_line handlers.items)) }
 {
@@ -177,7 +177,7 @@ pub fn try_at<'a>(
     Ok((Stmt { line, kind }, rest))
 }
 
-/// Whether an `except` branch follows.
+// Whether an `except` branch follows.
 fn begins_except(tokens: Tokens) -> bool
     ensures { result ≡ begins_with is_except (lexemes_left tokens.entry) }
 {
@@ -187,7 +187,7 @@ fn begins_except(tokens: Tokens) -> bool
     }
 }
 
-/// The `except` branches of a `try` behind its first, and the first before them.
+// The `except` branches of a `try` behind its first, and the first before them.
 #[cycle(blocks)]
 fn handlers_at<'a>(
     alloc: Global,
@@ -209,7 +209,7 @@ fn handlers_at<'a>(
     Ok((handlers, rest))
 }
 
-/// An `except` branch with its line.
+// An `except` branch with its line.
 #[cycle(blocks)]
 fn handler_at<'a>(
     alloc: Global,
@@ -231,7 +231,7 @@ fn handler_at<'a>(
     }
 }
 
-/// The name and the block of an `except` branch.
+// The name and the block of an `except` branch.
 #[cycle(blocks)]
 fn handler_parts_at<'a>(
     alloc: Global,

@@ -1,7 +1,7 @@
 // The functions and methods that the language has of itself.
 
 ghost use Rattle.std.specs.Prelude.{◌≡◌};
-ghost use Rattle.kern_calls.specs.Calls.{builtin_named, builtin_result, builtin_takes, builtin_is_live, object_named, method_of, operation_result, operation_takes, is_live};
+ghost use Rattle.kern_calls.specs.Calls.{builtin_named, builtin_result, builtin_takes, builtin_is_live, object_named, method_of, method_named, operation_result, operation_takes, is_live};
 
 use crate::wanted::Wanted;
 use kern_syntax::DeclaredType;
@@ -130,6 +130,16 @@ pub fn object_named(name: &[u8]) -> Option<Object>
             Some(kind) => Some(Object::Channel(kind, number)),
             None => None,
         },
+        None => None,
+    }
+}
+
+/// The method of a name of the object of a name, if there are both.
+pub fn method_named(object: &[u8], name: &[u8]) -> Option<Operation>
+    ensures { result ≡ method_named object.now name.now }
+{
+    match object_named(object) {
+        Some(object) => method_of(object, name),
         None => None,
     }
 }

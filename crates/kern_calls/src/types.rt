@@ -1,8 +1,9 @@
 // The types of values.
 
 ghost use Rattle.std.specs.Prelude.{◌≡◌};
-ghost use Rattle.kern_calls.specs.Types.{binary_type, declared_type, literal_type, wider_type};
+ghost use Rattle.kern_calls.specs.Types.{binary_type, bits_of, declared_type, literal_type, result_type, wider_type};
 
+use crate::calls::Operation;
 use kern_syntax::{BinaryOperator, DeclaredType};
 
 /// The type of an expression or of a name.
@@ -28,6 +29,16 @@ pub fn wider(a: ValueType, b: ValueType) -> ValueType
     }
 }
 
+/// The number of bits at which values of a type wrap: 32 or 64.
+pub fn bits_of(kind: ValueType) -> u8
+    ensures { result ≡ bits_of kind }
+{
+    match kind {
+        ValueType::Int32 => 32,
+        _ => 64,
+    }
+}
+
 /// The type that a header names.
 pub fn declared_type(declared: DeclaredType) -> ValueType
     ensures { result ≡ declared_type declared }
@@ -36,6 +47,29 @@ pub fn declared_type(declared: DeclaredType) -> ValueType
         DeclaredType::Int32 => ValueType::Int32,
         DeclaredType::Int64 => ValueType::Int64,
         DeclaredType::Bool => ValueType::Bool,
+    }
+}
+
+/// The type of a call's value; int64 where it has none.
+pub fn result_type(declared: Option<DeclaredType>) -> ValueType
+    ensures { result ≡ result_type declared }
+{
+    match declared {
+        Some(declared) => declared_type(declared),
+        None => ValueType::Int64,
+    }
+}
+
+ghost use Rattle.std.specs.Prelude.{option_and_then};
+ghost use Rattle.kern_calls.specs.Calls.{operation_result};
+
+/// The type of a method's value; int64 where it has none.
+pub fn method_type(method: Option<Operation>) -> ValueType
+    ensures { result ≡ result_type (option_and_then operation_result method) }
+{
+    match method {
+        Some(operation) => result_type(operation.result()),
+        None => ValueType::Int64,
     }
 }
 

@@ -6,7 +6,7 @@ use Rattle.std.proofs.lemmas.Bool.{and_parts, not-true}
 use Rattle.std.proofs.lemmas.List.{drop_at, take_all}
 use Rattle.kern_lexer.specs.Bytes.{Bytes, line_feed, carriage_return, number_sign}
 use Rattle.kern_lexer.specs.Lines.{lines_of, without_return, without_comment}
-use Rattle.kern_lexer.specs.Margins.{width_of}
+use Rattle.kern_lexer.specs.Margins.{leading_spaces}
 use Rattle.kern_lexer.specs.Symbols.{Symbol}
 use Rattle.kern_syntax.specs.Print.{indent, line_text}
 use Rattle.kern_canonical.proofs.Beginnings.{begins_operand}
@@ -75,12 +75,12 @@ lines-indented level code rest plain =
     ap lines_of (append_assoc (indent level ++ code) (codes "\n") rest) ∙ lines-first (indent level ++ code) rest (indented-plain level code plain)
 
 -- its width
-no-width : (code : Bytes) → begins_operand code ≡ true → width_of code ≡ 0
+no-width : (code : Bytes) → begins_operand code ≡ true → leading_spaces code ≡ 0
 no-width [] begins = absurd cc
 no-width (b ∷ rest) begins =
     let no_space : nat_eq b 32 ≡ false = grind arith in rw no_space refl
 
-pub indent-width : (level : ℕ) (code : Bytes) → begins_operand code ≡ true → width_of (indent level ++ code) ≡ 4 * level
+pub indent-width : (level : ℕ) (code : Bytes) → begins_operand code ≡ true → leading_spaces (indent level ++ code) ≡ 4 * level
 indent-width zero code begins = no-width code begins
 indent-width (suc level) code begins = omega (arith, indent-width level code begins)
 

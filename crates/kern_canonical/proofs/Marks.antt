@@ -3,7 +3,7 @@ use Rattle.std.proofs.Common.{◌≡◌, ℕ, suc, ◌+◌, ◌-◌, ◌*◌, �
 use Rattle.kern_lexer.specs.Bytes.{Bytes}
 use Rattle.kern_lexer.specs.Faults.{LexFault, ◌>>=◌}
 use Rattle.kern_lexer.specs.Lines.{lines_of}
-use Rattle.kern_lexer.specs.Margins.{Margin, margin, unmarked, width_of}
+use Rattle.kern_lexer.specs.Margins.{Margin, margin, unmarked, leading_spaces}
 use Rattle.kern_lexer.specs.Symbols.{Symbol, indent, dedent}
 use Rattle.kern_lexer.specs.Tokens.{Left, LineTokens, ended_line, tokens_from}
 use Rattle.kern_lexer.specs.Words.{words_from}
@@ -34,19 +34,19 @@ marked_margin kind m = record { marks = kind ∷ m.marks; widths = m.widths }
 -- it gives a line one more token
 words-marked : (left : Left) (line at : ℕ) (code : Bytes) (ends : Token) (kind : TokenKind) (m : Margin) (words : Result (List Token) LexFault)
     → line_of left line at code ends (Ok (marked_margin kind m)) words
-    ≡ line_of left line at code ends (Ok m) words >>= (λ found. Ok (marked_line (mark_at line (at + width_of code) kind) found))
+    ≡ line_of left line at code ends (Ok m) words >>= (λ found. Ok (marked_line (mark_at line (at + leading_spaces code) kind) found))
 words-marked left line at code ends kind m (Err fault) = refl
 words-marked left line at code ends kind m (Ok own) = refl
 
 line-marked : (now later : List ℕ) (level : ℕ) (m : Margin) (kind : TokenKind) (code : Bytes) → Starts code
     → margin now (4 * level) ≡ Some (marked_margin kind m) → margin later (4 * level) ≡ Some m → (line at : ℕ)
     → ended_line (outside now) line at (P.indent level ++ code)
-    ≡ ended_line (outside later) line at (P.indent level ++ code) >>= (λ found. Ok (marked_line (mark_at line (at + width_of (P.indent level ++ code)) kind) found))
+    ≡ ended_line (outside later) line at (P.indent level ++ code) >>= (λ found. Ok (marked_line (mark_at line (at + leading_spaces (P.indent level ++ code)) kind) found))
 line-marked now later level m kind code s is_now is_later line at =
     let first : Bytes = P.indent level ++ code in
     line-read now level code (marked_margin kind m) s is_now line at
     ∙ words-marked (outside later) line at first (newline_at line at first) kind m (words_from line at 0 first)
-    ∙ ap (λ r. r >>= (λ found. Ok (marked_line (mark_at line (at + width_of first) kind) found))) (sym (line-read later level code m s is_later line at))
+    ∙ ap (λ r. r >>= (λ found. Ok (marked_line (mark_at line (at + leading_spaces first) kind) found))) (sym (line-read later level code m s is_later line at))
 
 -- and of the lines that it begins
 after-mark : (t : Token) (found : Result LineTokens LexFault) (more : Left → Result (List Token) LexFault)
@@ -63,10 +63,10 @@ after-mark t (Ok found) more = each (more found.left)
 lines-marked : (now later : List ℕ) (level : ℕ) (m : Margin) (kind : TokenKind) (text : Bytes) (b : BeginsAt level text)
     → margin now (4 * level) ≡ Some (marked_margin kind m) → margin later (4 * level) ≡ Some m → (line at : ℕ)
     → tokens_from (outside now) line at (lines_of text)
-    ≡ tokens_from (outside later) line at (lines_of text) >>= (λ ts. Ok (mark_at line (at + width_of (P.indent level ++ b.code)) kind ∷ ts))
+    ≡ tokens_from (outside later) line at (lines_of text) >>= (λ ts. Ok (mark_at line (at + leading_spaces (P.indent level ++ b.code)) kind ∷ ts))
 lines-marked now later level m kind text b is_now is_later line at =
     let first : Bytes = P.indent level ++ b.code in
-    let t : Token = mark_at line (at + width_of first) kind in
+    let t : Token = mark_at line (at + leading_spaces first) kind in
     let lines : lines_of text ≡ first ∷ lines_of b.others = ap lines_of b.whole ∙ lines-indented level b.code b.others b.starts.plain in
     let more : Left → Result (List Token) LexFault = λ left. tokens_from left (suc line) (suc (at + length first)) (lines_of b.others) in
     ap (tokens_from (outside now) line at) lines
@@ -79,11 +79,11 @@ lines-marked now later level m kind text b is_now is_later line at =
 pub indent-first : (level : ℕ) (text : Bytes) (symbols : List Symbol) → BeginsAt (suc level) text → Lexes (widths_at (suc level)) text symbols
     → Lexes (widths_at level) text (indent ∷ symbols)
 indent-first level text symbols b l = record {
-  tokens = λ line at. mark_at line (at + width_of (P.indent (suc level) ++ b.code)) T.Indent ∷ l.tokens line at;
+  tokens = λ line at. mark_at line (at + leading_spaces (P.indent (suc level) ++ b.code)) T.Indent ∷ l.tokens line at;
   read = λ line at.
       lines-marked (widths_at level) (widths_at (suc level)) (suc level) (unmarked (widths_at (suc level))) T.Indent text b
       (margin-deeper level) (margin-same (suc level)) line at
-      ∙ ap (λ r. r >>= (λ ts. Ok (mark_at line (at + width_of (P.indent (suc level) ++ b.code)) T.Indent ∷ ts))) (l.read line at);
+      ∙ ap (λ r. r >>= (λ ts. Ok (mark_at line (at + leading_spaces (P.indent (suc level) ++ b.code)) T.Indent ∷ ts))) (l.read line at);
   spelled = λ whole before line is. ap (λ y. indent ∷ y) (l.spelled whole before line is);
 }
 
@@ -111,10 +111,10 @@ dedent-at_line level lower text symbols below b l =
     let closes : margin (widths_at (suc level)) (4 * lower) ≡ Some (marked_margin T.Dedent m) =
     margin-lower (suc level) lower (omega arith) ∙ ap (λ n. Some (record { marks = replicate n T.Dedent; widths = widths_at lower })) one_more in
     record {
-      tokens = λ line at. mark_at line (at + width_of (P.indent lower ++ b.code)) T.Dedent ∷ l.tokens line at;
+      tokens = λ line at. mark_at line (at + leading_spaces (P.indent lower ++ b.code)) T.Dedent ∷ l.tokens line at;
       read = λ line at.
           lines-marked (widths_at (suc level)) (widths_at level) lower m T.Dedent text b closes (margin-lower level lower below) line at
-          ∙ ap (λ r. r >>= (λ ts. Ok (mark_at line (at + width_of (P.indent lower ++ b.code)) T.Dedent ∷ ts))) (l.read line at);
+          ∙ ap (λ r. r >>= (λ ts. Ok (mark_at line (at + leading_spaces (P.indent lower ++ b.code)) T.Dedent ∷ ts))) (l.read line at);
       spelled = λ whole before line is. ap (λ y. dedent ∷ y) (l.spelled whole before line is);
     }
 

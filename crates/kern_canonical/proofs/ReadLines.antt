@@ -7,7 +7,7 @@ use Rattle.kern_lexer.specs.Bytes.{Bytes}
 use Rattle.kern_lexer.specs.Faults.{◌>>=◌}
 use Rattle.kern_lexer.specs.Fronts.{begins_token}
 use Rattle.kern_lexer.specs.Lines.{lines_of, without_comment}
-use Rattle.kern_lexer.specs.Margins.{Margin, margin, unmarked, width_of}
+use Rattle.kern_lexer.specs.Margins.{Margin, margin, unmarked, leading_spaces}
 use Rattle.kern_lexer.specs.Symbols.{Symbol, newline, lexeme_of, lexemes_of}
 use Rattle.kern_lexer.specs.Tokens.{Left, margin_of, newline_after, line_tokens, ended_line, tokens_from}
 use Rattle.kern_lexer.specs.Words.{words_from}
@@ -33,7 +33,7 @@ newline_at line at first = record { kind = T.Newline; at = at + length first; le
 margin-read : (widths : List ℕ) (level at : ℕ) (code : Bytes) (m : Margin) → Starts code → margin widths (4 * level) ≡ Some m
     → margin_of (outside widths).brackets widths at (P.indent level ++ code) ≡ Ok m
 margin-read widths level at code m s is =
-    let width : width_of (P.indent level ++ code) ≡ 4 * level = indent-width level code s.begins in
+    let width : leading_spaces (P.indent level ++ code) ≡ 4 * level = indent-width level code s.begins in
     let there : begins_token (drop (4 * level) (P.indent level ++ code)) ≡ true = ap begins_token (indent-dropped level code) ∙ s.token in
     rw width (rw there (rw is refl))
 

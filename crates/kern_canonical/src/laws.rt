@@ -1,4 +1,4 @@
-//! What holds of every tree's canonical text.
+// What holds of every tree's canonical text.
 
 ghost use Rattle.std.specs.Prelude.{◌≡◌, List};
 ghost use Rattle.kern_canonical.specs.Printing.{PrintsBack};

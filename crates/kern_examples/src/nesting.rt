@@ -5,7 +5,7 @@ use crate::texts::expect_printed;
 use std::alloc::Global;
 use std::test::Fail;
 
-/// A canonical text with so many groups around a 1, in a statement that goes on with `back` behind them.
+// A canonical text with so many groups around a 1, in a statement that goes on with `back` behind them.
 fn grouped(alloc: Global, front: &str, groups: usize, back: &str) -> Result<String, Fail> {
     let opening = repeated(alloc, "(", groups)?;
     let closing = repeated(alloc, ")", groups)?;
@@ -51,7 +51,7 @@ fn groups_nest_up_to_16(rt: HostRuntime) -> Result<(), Fail> {
     Ok(())
 }
 
-/// A canonical text with a statement in the sixteenth block: that of a function and of 15 `if` in one another.
+// A canonical text with a statement in the sixteenth block: that of a function and of 15 `if` in one another.
 fn in_sixteen_blocks(alloc: Global, statement: &str) -> Result<String, Fail> {
     let mut text = "def main():\n".to_string(alloc)?;
     for depth in 1..16 {

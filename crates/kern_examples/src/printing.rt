@@ -11,7 +11,7 @@ use std::alloc::{AllocError, Global};
 use std::process::Abort;
 use std::test::Fail;
 
-/// Asserts that the tree of a text is printed so, and has so many nodes.
+// Asserts that the tree of a text is printed so, and has so many nodes.
 fn expect_printed(
     rt: &impl Abort,
     alloc: Global,
@@ -33,7 +33,7 @@ fn expect_printed(
     Ok(())
 }
 
-/// Asserts that the lines of `main`, each behind one space, are printed as these.
+// Asserts that the lines of `main`, each behind one space, are printed as these.
 fn expect_lines(
     rt: &impl Abort,
     alloc: Global,

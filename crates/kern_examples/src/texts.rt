@@ -29,7 +29,7 @@ pub fn expect_printed(
     Ok(())
 }
 
-/// Asserts that a statement is read in a block of its own, as this canonical text.
+// Asserts that a statement is read in a block of its own, as this canonical text.
 fn expect_statement(
     rt: &impl Abort,
     alloc: Global,
@@ -130,7 +130,7 @@ fn each_statement_with_a_block_is_read(rt: HostRuntime) -> Result<(), Fail> {
     expect_printed(&rt, rt.alloc(), text, printed, count)
 }
 
-/// Whether an expression is `(a - b) - c`, as far as its operators go.
+// Whether an expression is `(a - b) - c`, as far as its operators go.
 fn leans_left(e: &Expr) -> bool {
     match e {
         Expr::Binary(BinaryOperator::Subtract, left, right) => {

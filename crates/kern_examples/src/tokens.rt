@@ -18,7 +18,7 @@ fn fault(at: u32, kind: LexKind) -> LexEnd {
     LexEnd::Fault { at, kind }
 }
 
-/// Asserts that the text has these tokens.
+// Asserts that the text has these tokens.
 fn expect_tokens(
     rt: &impl Abort,
     alloc: Global,
@@ -31,7 +31,7 @@ fn expect_tokens(
     Ok(())
 }
 
-/// Asserts that the text has this first fault.
+// Asserts that the text has this first fault.
 fn expect_fault(rt: &impl Abort, alloc: Global, text: &[u8], at: u32, kind: LexKind) {
     assert!(rt; text.len() < 1000);
     match lex(alloc, text) {
@@ -40,7 +40,7 @@ fn expect_fault(rt: &impl Abort, alloc: Global, text: &[u8], at: u32, kind: LexK
     }
 }
 
-/// Asserts that the text is one token and what ends a line.
+// Asserts that the text is one token and what ends a line.
 fn expect_single(rt: &impl Abort, alloc: Global, text: &[u8], kind: TokenKind) -> Result<(), Fail> {
     assert!(rt; text.len() < 1000);
     let len = text.len() as u32;

@@ -13,7 +13,7 @@ use std::alloc::Global;
 use std::process::Abort;
 use std::test::Fail;
 
-/// The tree that a text has.
+// The tree that a text has.
 fn tree_of(rt: &impl Abort, alloc: Global, text: &str) -> Result<Program, Fail>
     ensures grammatical { IfOk result (λ program. IsGrammatical (tree_of program)) }
     ensures spellable { IfOk result (λ program. IsSpellableProgram (tree_of program)) }
@@ -27,7 +27,7 @@ fn tree_of(rt: &impl Abort, alloc: Global, text: &str) -> Result<Program, Fail>
     }
 }
 
-/// Asserts that a text's program isn't typed, and what its first fault is.
+// Asserts that a text's program isn't typed, and what its first fault is.
 fn expect_fault(
     rt: &impl Abort,
     alloc: Global,
@@ -42,7 +42,7 @@ fn expect_fault(
     Ok(())
 }
 
-/// Asserts that a text's program is typed, and kept.
+// Asserts that a text's program is typed, and kept.
 fn expect_typed(rt: &impl Abort, alloc: Global, text: &str) -> Result<(), Fail> {
     let program = tree_of(rt, alloc, text)?;
     let printed = print(alloc, &program)?;
@@ -56,7 +56,7 @@ fn expect_typed(rt: &impl Abort, alloc: Global, text: &str) -> Result<(), Fail> 
     Ok(())
 }
 
-/// The faults of bodies of `main`, whose first line is line 2.
+// The faults of bodies of `main`, whose first line is line 2.
 fn expect_faults_of_bodies(
     rt: &impl Abort,
     alloc: Global,

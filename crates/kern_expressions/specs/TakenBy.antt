@@ -37,7 +37,7 @@ abbrev pub first_seen : {V : Type 0} → (view : Symbol → Option V) → Taker 
 first_seen view [] = Err []
 first_seen view (t ∷ rest) = choose (view t.symbol) (Err (t ∷ rest)) (λ v. Ok (v, rest))
 
--- taking by a plan, step by step
+-- taking by a plan, step by step: `run` of Plans.antt, stated a second time for the proof's sake
 abbrev pub perform : {A : Type 0} → Plan A → Taker A
 perform (done a) tokens = Ok (a, tokens)
 perform (token view next) tokens = do

@@ -1,5 +1,5 @@
-//! Reading atoms from the front of tokens: integers, truth values, names with what they are used
-//! for, and expressions in parentheses.
+// Reading atoms from the front of tokens: integers, truth values, names with what they are used
+// for, and expressions in parentheses.
 
 ghost use Rattle.std.specs.Prelude.{◌≡◌, ◌+◌, ◌-◌, suc, length, IfOk, IsTrue};
 ghost use Rattle.kern_lexer.specs.Names.{is_quotable};
@@ -35,7 +35,7 @@ pub fn identifier(alloc: Global, bytes: &[u8]) -> Result<Identifier, AllocError>
     Ok(Identifier::of(Vec::from_slice(alloc, bytes)?))
 }
 
-/// What is read up to a closing parenthesis.
+// What is read up to a closing parenthesis.
 fn close_parenthesis<'a>(e: Expr, tokens: Tokens<'a>) -> Result<(Expr, Tokens<'a>), WrongToken<'a>>
     ensures { FindsExpression result
         (closed is_close_parenthesis (expression_of e) (symbols_left tokens.entry)) }
@@ -49,7 +49,7 @@ fn close_parenthesis<'a>(e: Expr, tokens: Tokens<'a>) -> Result<(Expr, Tokens<'a
     }
 }
 
-/// What is read up to a closing bracket.
+// What is read up to a closing bracket.
 fn close_bracket<'a>(e: Expr, tokens: Tokens<'a>) -> Result<(Expr, Tokens<'a>), WrongToken<'a>>
     ensures { FindsExpression result
         (closed is_close_bracket (expression_of e) (symbols_left tokens.entry)) }
@@ -91,7 +91,7 @@ fn ended_atom<'a>(e: Expr, tokens: Tokens<'a>) -> Result<(Expr, Tokens<'a>), Wro
     }
 }
 
-/// An atom, whatever follows it.
+// An atom, whatever follows it.
 #[cycle(levels)]
 fn bare_atom_at<'a>(
     alloc: Global,
@@ -123,7 +123,7 @@ fn bare_atom_at<'a>(
     }
 }
 
-/// An expression in parentheses, of which the opening one is the first token.
+// An expression in parentheses, of which the opening one is the first token.
 #[cycle(levels)]
 fn group_at<'a>(
     alloc: Global,
@@ -142,7 +142,7 @@ fn group_at<'a>(
     Ok((whole, rest))
 }
 
-/// An element of an array, from the opening bracket of its index on.
+// An element of an array, from the opening bracket of its index on.
 #[cycle(levels)]
 fn element_at<'a>(
     alloc: Global,
@@ -162,7 +162,7 @@ fn element_at<'a>(
     Ok((whole, rest))
 }
 
-/// A name with an index, with arguments, with a method, or alone, from what follows the name on.
+// A name with an index, with arguments, with a method, or alone, from what follows the name on.
 #[cycle(levels)]
 fn named_at<'a>(
     alloc: Global,
@@ -189,7 +189,7 @@ fn named_at<'a>(
     }
 }
 
-/// The method of an object, from what follows the dot on.
+// The method of an object, from what follows the dot on.
 #[cycle(levels)]
 fn method_at<'a>(
     alloc: Global,
@@ -212,7 +212,7 @@ fn method_at<'a>(
     }
 }
 
-/// A call of a method, from what follows its name on.
+// A call of a method, from what follows its name on.
 #[cycle(levels)]
 fn called_method_at<'a>(
     alloc: Global,
@@ -239,7 +239,7 @@ fn called_method_at<'a>(
     }
 }
 
-/// What stands behind an argument: a comma, so that another follows, or the closing parenthesis.
+// What stands behind an argument: a comma, so that another follows, or the closing parenthesis.
 fn comma_or_close<'a>(tokens: Tokens<'a>) -> Result<(bool, Tokens<'a>), WrongToken<'a>>
     ensures { FindsRead (λ more. more) result (comma_or_close (symbols_left tokens.entry)) }
 {
@@ -256,7 +256,7 @@ fn comma_or_close<'a>(tokens: Tokens<'a>) -> Result<(bool, Tokens<'a>), WrongTok
     }
 }
 
-/// The arguments of a call and the closing parenthesis, from what follows the opening one on.
+// The arguments of a call and the closing parenthesis, from what follows the opening one on.
 #[cycle(levels)]
 fn arguments_at<'a>(
     alloc: Global,
@@ -275,7 +275,7 @@ fn arguments_at<'a>(
     }
 }
 
-/// At least one argument, and the closing parenthesis.
+// At least one argument, and the closing parenthesis.
 #[cycle(levels)]
 fn items_at<'a>(
     alloc: Global,
@@ -298,7 +298,7 @@ fn items_at<'a>(
     }
 }
 
-/// An argument: an expression, or a text in quotes.
+// An argument: an expression, or a text in quotes.
 #[cycle(levels)]
 fn argument_at<'a>(
     alloc: Global,
@@ -328,7 +328,7 @@ pub fn quoted_name(tokens: Tokens, at: u32, len: u32) -> Name
     Name::read(bytes).unwrap()
 }
 
-/// An expression as an argument.
+// An expression as an argument.
 #[cycle(levels)]
 fn value_at<'a>(
     alloc: Global,

@@ -1,7 +1,7 @@
-//! Reading expressions from the front of tokens, level by level.
-//!
-//! A level is how loosely an expression's form binds: 0 for an atom, 11 for `or`. The room is the
-//! number of nestings that may still be opened.
+// Reading expressions from the front of tokens, level by level.
+//
+// A level is how loosely an expression's form binds: 0 for an atom, 11 for `or`. The room is the
+// number of nestings that may still be opened.
 
 ghost use Rattle.std.specs.Prelude.{◌≡◌, ◌≢◌, ◌≤◌, ◌-◌, IfOk, OnOk};
 ghost use Rattle.kern_expressions.specs.Given.{FindsExpression, GivesExpression, symbols_left};
@@ -24,7 +24,7 @@ use std::alloc::{AllocError, Global};
 /// The level of a whole expression.
 pub const LOOSEST: u32 = 11;
 
-/// The most operators of one level in a row.
+// The most operators of one level in a row.
 const MOST_TURNS: u32 = 16;
 
 fn joined(alloc: Global, joiner: Joiner, left: Expr, right: Expr) -> Result<Expr, AllocError>
@@ -59,8 +59,8 @@ fn negated(alloc: Global, operand: Expr) -> Result<Expr, AllocError>
     Ok(Expr::Not(Box::new(alloc, operand)?))
 }
 
-/// The level at which what stands first is read: that of `not` where it stands first and may stand
-/// there, else that of prefixes, or of atoms where no more is asked for.
+// The level at which what stands first is read: that of `not` where it stands first and may stand
+// there, else that of prefixes, or of atoms where no more is asked for.
 fn front_level(level: u32, tokens: Tokens) -> u32
     ensures { result ≡ front_level level (symbols_left tokens.entry) }
 {
@@ -102,7 +102,7 @@ pub fn level_at<'a>(
     }
 }
 
-/// What stands before the operators: an atom, a prefix and its operand, or `not` and its operand.
+// What stands before the operators: an atom, a prefix and its operand, or `not` and its operand.
 #[cycle(levels)]
 fn front_at<'a>(
     alloc: Global,
@@ -120,7 +120,7 @@ fn front_at<'a>(
     }
 }
 
-/// What goes on with an operand at a level, of which an operator stands there.
+// What goes on with an operand at a level, of which an operator stands there.
 #[cycle(levels)]
 fn operators_at<'a>(
     alloc: Global,
@@ -140,7 +140,7 @@ fn operators_at<'a>(
     }
 }
 
-/// A row of operators of a level, behind its first operand.
+// A row of operators of a level, behind its first operand.
 #[cycle(levels)]
 fn row_at<'a>(
     alloc: Global,
@@ -172,7 +172,7 @@ fn row_at<'a>(
     }
 }
 
-/// A prefix and its operand, or an atom.
+// A prefix and its operand, or an atom.
 #[cycle(levels)]
 fn prefixed_at<'a>(
     alloc: Global,
@@ -194,7 +194,7 @@ fn prefixed_at<'a>(
     Ok((e, rest))
 }
 
-/// A comparison that no other follows, behind its left operand.
+// A comparison that no other follows, behind its left operand.
 #[cycle(levels)]
 fn compared_at<'a>(
     alloc: Global,
@@ -215,7 +215,7 @@ fn compared_at<'a>(
     Ok((whole, end))
 }
 
-/// A comparison, unless another follows it.
+// A comparison, unless another follows it.
 fn ended_comparison<'a>(e: Expr, tokens: Tokens<'a>) -> Result<(Expr, Tokens<'a>), WrongToken<'a>>
     ensures { FindsExpression result (end_of_comparison (expression_of e) (symbols_left tokens.entry)) }
 {
@@ -225,7 +225,7 @@ fn ended_comparison<'a>(e: Expr, tokens: Tokens<'a>) -> Result<(Expr, Tokens<'a>
     }
 }
 
-/// `not` and its operand, or a comparison.
+// `not` and its operand, or a comparison.
 #[cycle(levels)]
 fn negation_at<'a>(
     alloc: Global,

@@ -1,4 +1,4 @@
-//! Single tokens that must stand at the front.
+// Single tokens that must stand at the front.
 
 ghost use Rattle.kern_expressions.specs.TakenBy.{FindsRest, first_seen, lexemes_left};
 ghost use Rattle.kern_grammar.specs.Views.{close_bracket, close_parenthesis, colon, dedented, def_key, dot, in_key, indented, line_end, open_parenthesis};
@@ -7,7 +7,7 @@ use crate::read_end::WrongToken;
 use crate::tokens::Tokens;
 use kern_lexer::{Key, Sign, TokenKind};
 
-/// The tokens behind the first, which matches a pattern.
+// The tokens behind the first, which matches a pattern.
 macro_rules! behind {
     ($tokens:expr, $pattern:pat) => {
         match $tokens.list {

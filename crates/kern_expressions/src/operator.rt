@@ -1,4 +1,4 @@
-//! The operators that tokens begin with.
+// The operators that tokens begin with.
 
 ghost use Rattle.std.specs.Prelude.{◌≡◌, ℕ};
 ghost use Rattle.kern_lexer.specs.Symbols.{symbol_of};

@@ -1,4 +1,4 @@
-//! Why reading stopped.
+// Why reading stopped.
 
 ghost use Rattle.std.specs.Prelude.{◌≡◌};
 

@@ -1,4 +1,4 @@
-//! The tokens of a text that are still to be read.
+// The tokens of a text that are still to be read.
 
 ghost use Rattle.std.specs.Prelude.{IsTrue};
 ghost use Rattle.kern_grammar.specs.Spelled.{are_spelled};

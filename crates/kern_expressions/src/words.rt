@@ -1,4 +1,4 @@
-//! Names and words at the front of tokens.
+// Names and words at the front of tokens.
 
 ghost use Rattle.std.specs.Prelude.{◌≡◌, Some, None, if◌then◌else◌};
 ghost use Rattle.std.specs.Str.{bytes_eq};
@@ -50,7 +50,7 @@ pub fn word_at<'a>(word: &[u8], tokens: Tokens<'a>) -> Result<Tokens<'a>, WrongT
     }
 }
 
-/// The type that a word names.
+// The type that a word names.
 fn type_of_word(word: &[u8]) -> Option<DeclaredType>
     ensures { result ≡ type_of_word word.now }
 {

@@ -1,4 +1,4 @@
-//! Operators that stand in rows.
+// Operators that stand in rows.
 
 use kern_syntax::BinaryOperator;
 

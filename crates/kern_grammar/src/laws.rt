@@ -1,4 +1,4 @@
-//! What holds of every list of tokens.
+// What holds of every list of tokens.
 
 ghost use Rattle.std.specs.Prelude.{◌≡◌, ◌<◌, ℕ, List, ◌++◌, length, true};
 ghost use Rattle.kern_lexer.specs.Symbols.{Lexeme, Symbol};

@@ -9,7 +9,7 @@ use Rattle.kern_lexer.specs.Bytes.{Bytes, space}
 use Rattle.kern_lexer.specs.Faults.{◌>>=◌, placed}
 use Rattle.kern_lexer.specs.Fronts.{front_of, bytes_of, begins_token}
 use Rattle.kern_lexer.specs.Lines.{lines_of, without_return, without_comment}
-use Rattle.kern_lexer.specs.Margins.{Margin, width_of, margin, unmarked, closed_down_to, top_of}
+use Rattle.kern_lexer.specs.Margins.{Margin, leading_spaces, margin, unmarked, closed_down_to, top_of}
 use Rattle.kern_lexer.specs.Tokens.{Left, LineTokens, marks_at, margin_of, margin_or_fault, newline_after, line_tokens, ended_line, last_line, end_tokens, tokens_from, tokens_of}
 use Rattle.kern_lexer.specs.Words.{tokens_at, words_from}
 use Rattle.kern_lexer.specs.declared.front.Front.{Front}
@@ -43,23 +43,23 @@ words-few line at zero (b ∷ rest) own e =
 
 -- and the spaces in front of them make none
 line-few : (line at : ℕ) (code : Bytes) (own : List Token) → words_from line at 0 code ≡ Ok own
-    → length own + width_of code ≤ length code
+    → length own + leading_spaces code ≤ length code
 line-few line at [] own e = let none : [] ≡ own = ok-same _ _ _ refl e in omega (arith, ap length (sym none))
 line-few line at (b ∷ rest) own e = at_first (nat_eq b space) refl (line-few line (suc at) rest)
   where
     at_first : (t : Bool) → nat_eq b space ≡ t
-        → ((others : List Token) → words_from line (suc at) 0 rest ≡ Ok others → length others + width_of rest ≤ length rest)
-        → length own + width_of (b ∷ rest) ≤ length (b ∷ rest)
+        → ((others : List Token) → words_from line (suc at) 0 rest ≡ Ok others → length others + leading_spaces rest ≤ length rest)
+        → length own + leading_spaces (b ∷ rest) ≤ length (b ∷ rest)
     at_first true is later =
         let front : front_of (b ∷ rest) ≡ Ok R.Space = rw is refl in
-        let width : width_of (b ∷ rest) ≡ 1 + width_of rest = rw is refl in
+        let width : leading_spaces (b ∷ rest) ≡ 1 + leading_spaces rest = rw is refl in
         let steps : words_from line at 0 (b ∷ rest) ≡ words_from line (suc at) 0 rest >>= (λ others. Ok ([] ++ others)) =
         rw front refl in
         let second = steps-ok (words_from line (suc at) 0 rest) (λ others. Ok ([] ++ others)) own (sym steps ∙ e) in
         let same : second.value ≡ own = ok-same _ _ _ refl second.then in
         omega (arith, width, later second.value second.is, ap length same)
     at_first false is later =
-        let width : width_of (b ∷ rest) ≡ 0 = rw is refl in
+        let width : leading_spaces (b ∷ rest) ≡ 0 = rw is refl in
         omega (arith, width, words-few line at 0 (b ∷ rest) own e)
 
 -- a line has at most one Newline, and none without words
@@ -102,12 +102,12 @@ unmarked-paid widths width m e = subst (IsPaid widths width) (ok-same _ (unmarke
     here = omega arith
 
 line-paid : (brackets : List Bracket) (widths : List ℕ) (at : ℕ) (code : Bytes) (m : Margin)
-    → margin_of brackets widths at code ≡ Ok m → IsPaid widths (width_of code) m
+    → margin_of brackets widths at code ≡ Ok m → IsPaid widths (leading_spaces code) m
 line-paid [] widths at code m =
-    cond_both (begins_token (drop (width_of code) code)) _ _ (λ r. r ≡ Ok m → IsPaid widths (width_of code) m)
-    (λ _. margin-paid (at + width_of code) widths (width_of code) m)
-    (λ _. unmarked-paid widths (width_of code) m)
-line-paid (b ∷ more) widths at code m = unmarked-paid widths (width_of code) m
+    cond_both (begins_token (drop (leading_spaces code) code)) _ _ (λ r. r ≡ Ok m → IsPaid widths (leading_spaces code) m)
+    (λ _. margin-paid (at + leading_spaces code) widths (leading_spaces code) m)
+    (λ _. unmarked-paid widths (leading_spaces code) m)
+line-paid (b ∷ more) widths at code m = unmarked-paid widths (leading_spaces code) m
 
 -- a line's tokens and the widths that are open behind it
 line-count : (left : Left) (line at : ℕ) (code : Bytes) (newline : Token) (found : LineTokens)
@@ -118,7 +118,7 @@ line-count left line at code newline found e =
     let second = steps-ok (words_from line at 0 code) _ found first.then in
     let own : List Token = second.value in
     let m : Margin = first.value in
-    let marks : List Token = marks_at line (at + width_of code) m.marks in
+    let marks : List Token = marks_at line (at + leading_spaces code) m.marks in
     let closing : List Token = newline_after own (open_behind left.brackets own) newline in
     let made : LineTokens =
     record { tokens = marks ++ own ++ closing; left = record { widths = m.widths; brackets = open_behind left.brackets own } } in
@@ -127,9 +127,9 @@ line-count left line at code newline found e =
     let tokens : length (marks ++ own ++ closing) ≡ length marks + length own + length closing =
     length-append (marks ++ own) closing
     ∙ ap (λ n. n + length closing) (length-append marks own) in
-    let paid : length m.marks + length m.widths ≤ length left.widths + 2 * width_of code =
+    let paid : length m.marks + length m.widths ≤ length left.widths + 2 * leading_spaces code =
     line-paid left.brackets left.widths at code m first.is in
-    let few : length own + width_of code ≤ length code = line-few line at code own second.is in
+    let few : length own + leading_spaces code ≤ length code = line-few line at code own second.is in
     let ending : length closing ≤ length own = newline-few own (open_behind left.brackets own) newline in
     let count : length (marks ++ own ++ closing) + length m.widths ≤ length left.widths + 2 * length code =
     omega (arith, marked, tokens, paid, few, ending) in

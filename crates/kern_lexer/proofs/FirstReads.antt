@@ -6,7 +6,7 @@ use Rattle.kern_lexer.specs.Bytes.{Bytes, space}
 use Rattle.kern_lexer.specs.Faults.{LexFault, ◌>>=◌}
 use Rattle.kern_lexer.specs.Fronts.{begins_token}
 use Rattle.kern_lexer.specs.Layouts.{place_behind, line_behind, brackets_behind, is_first_word, width_behind, widths_of, has_right_width, is_right_width}
-use Rattle.kern_lexer.specs.Margins.{Margin, margin, unmarked, width_of}
+use Rattle.kern_lexer.specs.Margins.{Margin, margin, unmarked, leading_spaces}
 use Rattle.kern_lexer.specs.Pieces.{Piece, blank, bytes_of_pieces}
 use Rattle.kern_lexer.specs.Steps.{text_after}
 use Rattle.kern_lexer.specs.Tokens.{Left, margin_of, margin_or_fault, marks_at, newline_after}
@@ -41,11 +41,11 @@ newline-same (t ∷ own) [] newline = refl
 newline-same (t ∷ own) (b ∷ brackets) newline = rw (some-open b brackets) refl
 
 pub line-parts : (left : Left) (line at : ℕ) (code : Bytes) (newline : Token) (next : Next) (margin : Result Margin LexFault) (words : Result (List Token) LexFault)
-    → line_of left line at code newline margin words >>= (λ found. text_after found.tokens (next found.left)) ≡ margin_then newline next left.brackets line (at + width_of code) margin words
+    → line_of left line at code newline margin words >>= (λ found. text_after found.tokens (next found.left)) ≡ margin_then newline next left.brackets line (at + leading_spaces code) margin words
 line-parts left line at code newline next (Err fault) words = refl
 line-parts left line at code newline next (Ok m) (Err fault) = refl
 line-parts left line at code newline next (Ok m) (Ok own) =
-    let marks : List Token = marks_at line (at + width_of code) m.marks in
+    let marks : List Token = marks_at line (at + leading_spaces code) m.marks in
     let brackets : List Bracket = open_behind left.brackets own in
     let after : Result (List Token) LexFault = next (record { widths = m.widths; brackets = brackets }) in
     ap (λ ts. text_after ts after) (append_assoc marks own (newline_after own brackets newline))
@@ -58,7 +58,7 @@ margin_here [] widths width at rest = cond (begins_token rest) (margin_or_fault 
 margin_here (b ∷ more) widths width at rest = Ok (unmarked widths)
 
 pub margin-here : (brackets : List Bracket) (widths : List ℕ) (at : ℕ) (code : Bytes)
-    → margin_of brackets widths at code ≡ margin_here brackets widths (width_of code) (at + width_of code) (drop (width_of code) code)
+    → margin_of brackets widths at code ≡ margin_here brackets widths (leading_spaces code) (at + leading_spaces code) (drop (leading_spaces code) code)
 margin-here [] widths at code = refl
 margin-here (b ∷ more) widths at code = refl
 
@@ -92,18 +92,18 @@ one-space line at width b code is later =
       spaceless = later.spaceless;
     }
 
-pub spaces-of : (line at : ℕ) (code : Bytes) → Spaces line at (width_of code) code
+pub spaces-of : (line at : ℕ) (code : Bytes) → Spaces line at (leading_spaces code) code
 spaces-of line at [] = no-spaces line at [] tt
 spaces-of line at (b ∷ code) = at_first (nat_eq b space) refl (spaces-of line (suc at) code)
   where
-    at_first : (t : Bool) → nat_eq b space ≡ t → Spaces line (suc at) (width_of code) code
-        → Spaces line at (width_of (b ∷ code)) (b ∷ code)
+    at_first : (t : Bool) → nat_eq b space ≡ t → Spaces line (suc at) (leading_spaces code) code
+        → Spaces line at (leading_spaces (b ∷ code)) (b ∷ code)
     at_first true is later =
-        let width : width_of (b ∷ code) ≡ 1 + width_of code = rw is refl in
-        let more : suc (width_of code) ≡ width_of (b ∷ code) = omega (arith, width) in
-        subst (λ n. Spaces line at n (b ∷ code)) more (one-space line at (width_of code) b code is later)
+        let width : leading_spaces (b ∷ code) ≡ 1 + leading_spaces code = rw is refl in
+        let more : suc (leading_spaces code) ≡ leading_spaces (b ∷ code) = omega (arith, width) in
+        subst (λ n. Spaces line at n (b ∷ code)) more (one-space line at (leading_spaces code) b code is later)
     at_first false is later =
-        let none : 0 ≡ width_of (b ∷ code) = rw is refl in
+        let none : 0 ≡ leading_spaces (b ∷ code) = rw is refl in
         subst (λ n. Spaces line at n (b ∷ code)) none (no-spaces line at (b ∷ code) is)
 
 -- ---- the first word

@@ -9,7 +9,7 @@ use Rattle.kern_lexer.specs.Faults.{LexFault, ◌>>=◌, placed}
 use Rattle.kern_lexer.specs.Fronts.{Fronted, front_of, is_token_front}
 use Rattle.kern_lexer.specs.Layouts.{place_behind, line_behind, brackets_behind, this_line, is_first_word, width_behind, width_made, widths_of, has_right_width, is_right_width}
 use Rattle.kern_lexer.specs.Made.{tokens_made, marks_of_width}
-use Rattle.kern_lexer.specs.Margins.{Margin, unmarked, width_of}
+use Rattle.kern_lexer.specs.Margins.{Margin, unmarked, leading_spaces}
 use Rattle.kern_lexer.specs.Pieces.{Piece, blank, word, bytes_of_pieces, is_blank, is_word}
 use Rattle.kern_lexer.specs.Steps.{text_after}
 use Rattle.kern_lexer.specs.Tokens.{line_tokens, margin_of, margin_or_fault, marks_at}
@@ -183,7 +183,7 @@ pub line-read : (before : List Piece) (code stop : Bytes) (newline : Token) (nex
     → IsClean code stop → IsReadAfter before code stop newline next
     → IsReadBehind before (code ++ stop) (line_tokens (left_behind before) (line_behind before) (place_behind before) code newline >>= (λ found. text_after found.tokens (next found.left)))
 line-read before code stop newline next new_line stops clean later =
-    let n : ℕ = width_of code in
+    let n : ℕ = leading_spaces code in
     let rest : Bytes = drop n code in
     let blanks : List Piece = replicate n blank in
     let after : List Piece = before ++ blanks in

@@ -6,7 +6,7 @@ use Rattle.kern_lexer.specs.Brackets.{open_behind}
 use Rattle.kern_lexer.specs.Bytes.{Bytes}
 use Rattle.kern_lexer.specs.Faults.{LexFault, ◌>>=◌}
 use Rattle.kern_lexer.specs.Lines.{without_return}
-use Rattle.kern_lexer.specs.Margins.{Margin, width_of}
+use Rattle.kern_lexer.specs.Margins.{Margin, leading_spaces}
 use Rattle.kern_lexer.specs.Steps.{words_after, margin_after, line_after}
 use Rattle.kern_lexer.specs.Tokens.{Left, LineTokens, marks_at, margin_of, newline_after, line_tokens}
 use Rattle.kern_lexer.specs.Words.{words_from}
@@ -20,13 +20,13 @@ line_of left line at code newline margin words = do
   m ← margin
   own ← words
   Ok (record {
-    tokens = marks_at line (at + width_of code) m.marks ++ own ++ newline_after own (open_behind left.brackets own) newline;
+    tokens = marks_at line (at + leading_spaces code) m.marks ++ own ++ newline_after own (open_behind left.brackets own) newline;
     left = record { widths = m.widths; brackets = open_behind left.brackets own };
   })
 
 -- a line that is read: its margin's marks, its words, and its Newline
 line-is_read : (before marked read ended : List Token) (left : Left) (widths : List ℕ) (brackets : List Bracket) (line at : ℕ) (code : Bytes) (newline : Token) (margin : Result Margin LexFault) (words : Result (List Token) LexFault)
-    → margin_after before line (at + width_of code) margin ≡ Ok (marked, widths)
+    → margin_after before line (at + leading_spaces code) margin ≡ Ok (marked, widths)
     → words_after marked left.brackets words ≡ Ok (read, brackets)
     → ended ≡ read ++ newline_after (drop (length marked) read) brackets newline
     → line_after before (line_of left line at code newline margin words) ≡ Ok (record { tokens = ended; left = record { widths = widths; brackets = brackets } })
@@ -35,7 +35,7 @@ line-is_read before marked read ended left widths brackets line at code newline 
 line-is_read before marked read ended left widths brackets line at code newline (Ok m) (Err fault) is_margin is_words is_ended =
     absurd cc
 line-is_read before marked read ended left widths brackets line at code newline (Ok m) (Ok own) is_margin is_words is_ended =
-    let marks : List Token = marks_at line (at + width_of code) m.marks in
+    let marks : List Token = marks_at line (at + leading_spaces code) m.marks in
     let margin_is : (before ++ marks, m.widths) ≡ (marked, widths) = cc in
     let words_is : (marked ++ own, open_behind left.brackets own) ≡ (read, brackets) = cc in
     let is_marked : before ++ marks ≡ marked = ap (λ (p : List Token × List ℕ). p.0) margin_is in
@@ -54,7 +54,7 @@ line-is_read before marked read ended left widths brackets line at code newline 
     ∙ ap (λ bs. Ok (record { tokens = ended; left = record { widths = widths; brackets = bs } })) is_brackets
 
 pub line-read : (before marked read ended : List Token) (left : Left) (widths : List ℕ) (brackets : List Bracket) (line at : ℕ) (code : Bytes) (newline : Token)
-    → margin_after before line (at + width_of code) (margin_of left.brackets left.widths at code) ≡ Ok (marked, widths)
+    → margin_after before line (at + leading_spaces code) (margin_of left.brackets left.widths at code) ≡ Ok (marked, widths)
     → words_after marked left.brackets (words_from line at 0 code) ≡ Ok (read, brackets)
     → ended ≡ read ++ newline_after (drop (length marked) read) brackets newline
     → line_after before (line_tokens left line at code newline) ≡ Ok (record { tokens = ended; left = record { widths = widths; brackets = brackets } })

@@ -7,7 +7,7 @@ use Rattle.std.proofs.lemmas.List.Sums.{prefix_len-le-length}
 use Rattle.kern_lexer.specs.Bytes.{Bytes}
 use Rattle.kern_lexer.specs.Faults.{LexFault}
 use Rattle.kern_lexer.specs.Fronts.{begins_token}
-use Rattle.kern_lexer.specs.Margins.{Margin, closed_down_to, top_of, margin, unmarked, width_of}
+use Rattle.kern_lexer.specs.Margins.{Margin, closed_down_to, top_of, margin, unmarked, leading_spaces}
 use Rattle.kern_lexer.specs.Tokens.{marks_at, margin_of, margin_or_fault}
 use Rattle.kern_lexer.specs.Steps.{margin_after}
 use Rattle.kern_lexer.specs.declared.layout.Bracket.{Bracket}
@@ -57,14 +57,14 @@ marks-one_more line at were left before so_far now marked pushed fewer =
 
 -- a margin is asked of a line outside brackets that begins with a token
 pub margin-asked : (brackets : List Bracket) (widths : List ℕ) (at : ℕ) (code : Bytes) → brackets ≡ []
-    → begins_token (drop (width_of code) code) ≡ true
-    → margin_of brackets widths at code ≡ margin_or_fault (at + width_of code) (margin widths (width_of code))
+    → begins_token (drop (leading_spaces code) code) ≡ true
+    → margin_of brackets widths at code ≡ margin_or_fault (at + leading_spaces code) (margin widths (leading_spaces code))
 margin-asked [] widths at code outside begins = rw begins refl
 margin-asked (b ∷ more) widths at code outside begins = absurd cc
 
 -- none is asked of a line without a token
 pub margin-unasked : (brackets : List Bracket) (widths : List ℕ) (at : ℕ) (code : Bytes)
-    → begins_token (drop (width_of code) code) ≡ false
+    → begins_token (drop (leading_spaces code) code) ≡ false
     → margin_of brackets widths at code ≡ Ok (unmarked widths)
 margin-unasked [] widths at code begins = rw begins refl
 margin-unasked (b ∷ more) widths at code begins = refl
@@ -81,5 +81,5 @@ pub after-unmarked : (tokens : List Token) (line at : ℕ) (widths : List ℕ) (
 after-unmarked tokens line at widths margin is = rw is (ap (λ ts. Ok (ts, widths)) (append-nil tokens))
 
 -- a line's spaces are within it
-pub width_within : (code : Bytes) → width_of code ≤ length code
+pub width_within : (code : Bytes) → leading_spaces code ≤ length code
 width_within code = prefix_len-le-length (λ b. nat_eq b 32) code

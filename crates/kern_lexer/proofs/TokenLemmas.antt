@@ -12,7 +12,7 @@ use Rattle.kern_lexer.specs.Bytes.{Bytes}
 use Rattle.kern_lexer.specs.Faults.{LexFault, ◌>>=◌, placed}
 use Rattle.kern_lexer.specs.Fronts.{front_of, bytes_of, begins_token}
 use Rattle.kern_lexer.specs.Lines.{lines_of, without_return, without_comment}
-use Rattle.kern_lexer.specs.Margins.{Margin, width_of, margin, unmarked, closed_down_to, top_of}
+use Rattle.kern_lexer.specs.Margins.{Margin, leading_spaces, margin, unmarked, closed_down_to, top_of}
 use Rattle.kern_lexer.specs.Spelled.{IsInner, IsInnerToken, EndsOnce}
 use Rattle.kern_lexer.specs.Symbols.{symbol_of}
 use Rattle.kern_lexer.specs.Tokens.{Left, LineTokens, marks_at, margin_of, margin_or_fault, newline_after, line_tokens, ended_line, last_line, end_tokens, tokens_from, tokens_of}
@@ -123,8 +123,8 @@ none-marked widths m e =
 line-marks : (brackets : List Bracket) (widths : List ℕ) (at : ℕ) (code : Bytes) (m : Margin)
     → margin_of brackets widths at code ≡ Ok m → All IsMark m.marks
 line-marks [] widths at code m =
-    cond_both (begins_token (drop (width_of code) code)) _ _ (λ r. r ≡ Ok m → All IsMark m.marks)
-    (λ _. margin-marks (at + width_of code) widths (width_of code) m)
+    cond_both (begins_token (drop (leading_spaces code) code)) _ _ (λ r. r ≡ Ok m → All IsMark m.marks)
+    (λ _. margin-marks (at + leading_spaces code) widths (leading_spaces code) m)
     (λ _ e. none-marked widths m e)
 line-marks (b ∷ more) widths at code m = none-marked widths m
 
@@ -144,11 +144,11 @@ line-inner text code more left line at newline found is below ending e =
     let first = steps-ok (margin_of left.brackets left.widths at code) _ found e in
     let second = steps-ok (words_from line at 0 code) _ found first.then in
     let own : List Token = second.value in
-    let marks : List Token = marks_at line (at + width_of code) (first.value).marks in
+    let marks : List Token = marks_at line (at + leading_spaces code) (first.value).marks in
     let closing : List Token = newline_after own (open_behind left.brackets own) newline in
-    let width : width_of code ≤ length code = prefix_len-le-length (λ b. nat_eq b 32) code in
+    let width : leading_spaces code ≤ length code = prefix_len-le-length (λ b. nat_eq b 32) code in
     let marked : All (IsInnerToken text) marks =
-    marks-inner text line (at + width_of code) (first.value).marks (omega (arith, width)) (line-marks left.brackets left.widths at code first.value first.is) in
+    marks-inner text line (at + leading_spaces code) (first.value).marks (omega (arith, width)) (line-marks left.brackets left.widths at code first.value first.is) in
     let words : All (IsInnerToken text) own = words-inner text code more line at 0 own is below second.is in
     let ended : All (IsInnerToken text) closing =
     newline-inner text own (open_behind left.brackets own) newline ending in

@@ -15,8 +15,8 @@ abbrev pub unmarked : List ℕ → Margin
 unmarked widths = record { marks = []; widths = widths }
 
 -- how many spaces a line begins with
-abbrev pub width_of : Bytes → ℕ
-width_of line = prefix_len (λ b. b == space) line
+abbrev pub leading_spaces : Bytes → ℕ
+leading_spaces line = prefix_len (λ b. b == space) line
 
 -- the widths left where those above this one are closed
 abbrev pub closed_down_to : ℕ → List ℕ → List ℕ

@@ -4,7 +4,7 @@ use Rattle.kern_lexer.specs.Brackets.{open_behind}
 use Rattle.kern_lexer.specs.Bytes.{Bytes}
 use Rattle.kern_lexer.specs.Faults.{LexFault, ◌>>=◌, placed}
 use Rattle.kern_lexer.specs.Fronts.{front_of, bytes_of}
-use Rattle.kern_lexer.specs.Margins.{Margin, margin, width_of}
+use Rattle.kern_lexer.specs.Margins.{Margin, margin, leading_spaces}
 use Rattle.kern_lexer.specs.Tokens.{Left, LineTokens, margin_of, margin_or_fault, marks_at}
 use Rattle.kern_lexer.specs.Words.{tokens_at, words_from}
 use Rattle.kern_lexer.specs.declared.fault.LexEnd.{LexEnd}
@@ -45,7 +45,7 @@ margin_marked tokens widths line at width = margin_after tokens line at (margin_
 
 -- the tokens and the open widths behind a line's margin
 abbrev pub margin_read : List Token → Left → (line at : ℕ) → Bytes → Result (List Token × List ℕ) LexFault
-margin_read tokens left line at code = margin_after tokens line (at + width_of code) (margin_of left.brackets left.widths at code)
+margin_read tokens left line at code = margin_after tokens line (at + leading_spaces code) (margin_of left.brackets left.widths at code)
 
 -- a line's tokens behind those before it, and what the line leaves
 abbrev pub line_after : List Token → Result LineTokens LexFault → Result LineTokens LexFault

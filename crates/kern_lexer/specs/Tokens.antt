@@ -5,7 +5,7 @@ use Rattle.kern_lexer.specs.Bytes.{Bytes}
 use Rattle.kern_lexer.specs.Faults.{LexFault, ◌>>=◌}
 use Rattle.kern_lexer.specs.Fronts.{begins_token}
 use Rattle.kern_lexer.specs.Lines.{lines_of, without_return, without_comment}
-use Rattle.kern_lexer.specs.Margins.{Margin, width_of, unmarked, margin}
+use Rattle.kern_lexer.specs.Margins.{Margin, leading_spaces, unmarked, margin}
 use Rattle.kern_lexer.specs.Words.{words_from}
 use Rattle.kern_lexer.specs.declared.fault.LexKind.TheVariants as F
 use Rattle.kern_lexer.specs.declared.layout.Bracket.{Bracket}
@@ -35,8 +35,8 @@ margin_or_fault at (Some m) = Ok m
 -- the margin of a line: none within brackets and where no token follows it
 abbrev pub margin_of : List Bracket → (widths : List ℕ) → (at : ℕ) → Bytes → Result Margin LexFault
 margin_of [] widths at code =
-    if begins_token (drop (width_of code) code)
-    then margin_or_fault (at + width_of code) (margin widths (width_of code))
+    if begins_token (drop (leading_spaces code) code)
+    then margin_or_fault (at + leading_spaces code) (margin widths (leading_spaces code))
     else Ok (unmarked widths)
 margin_of (b ∷ more) widths at code = Ok (unmarked widths)
 
@@ -53,7 +53,7 @@ line_tokens left line at code newline = do
   own ← words_from line at 0 code
   let brackets = open_behind left.brackets own in
       Ok (record {
-        tokens = marks_at line (at + width_of code) margin.marks ++ own ++ newline_after own brackets newline;
+        tokens = marks_at line (at + leading_spaces code) margin.marks ++ own ++ newline_after own brackets newline;
         left = record { widths = margin.widths; brackets = brackets };
       })
 

@@ -1,4 +1,4 @@
-//! What is wrong with a text that has no tokens.
+// What is wrong with a text that has no tokens.
 
 ghost use Rattle.std.specs.Prelude.{◌≡◌};
 

@@ -1,4 +1,4 @@
-//! What stands at the front of a line's bytes.
+// What stands at the front of a line's bytes.
 
 ghost use Rattle.std.specs.Prelude.{◌≡◌, ◌<◌, length};
 ghost use Rattle.std.specs.List.{prefix_len};
@@ -18,10 +18,10 @@ pub(crate) enum Front {
     Token { kind: TokenKind, len: usize },
 }
 
-/// The most bytes that a name has.
+// The most bytes that a name has.
 const NAME_LEN: usize = 64;
 
-/// The most bytes that a text in quotes has.
+// The most bytes that a text in quotes has.
 const TEXT_LEN: usize = 32;
 
 // Each letter, digit and underscore stands at its own place, and a comma at every other.
@@ -35,21 +35,21 @@ static WORD_BYTES: [u8; 256] = *b"\
     ,,,,,,,,,,,,,,,,,,,,,,,,,,,,,,,,\
     ,,,,,,,,,,,,,,,,,,,,,,,,,,,,,,,,";
 
-/// A letter, a digit or an underscore.
+// A letter, a digit or an underscore.
 fn is_word_byte(b: u8) -> bool
     ensures { result ≡ is_word_byte b }
 {
     WORD_BYTES[b as usize] != b','
 }
 
-/// How many letters, digits and underscores some bytes begin with.
+// How many letters, digits and underscores some bytes begin with.
 fn word_len(bytes: &[u8]) -> usize
     ensures { result ≡ prefix_len is_word_byte bytes.now }
 {
     bytes.iter().take_while(|b| is_word_byte(**b)).count()
 }
 
-/// A number where the word begins with a digit, else a keyword or a name.
+// A number where the word begins with a digit, else a keyword or a name.
 fn word_front(word: &[u8]) -> Result<Front, LexKind>
     ensures { result ≡ word_front word.now }
 {
@@ -67,7 +67,7 @@ fn word_front(word: &[u8]) -> Result<Front, LexKind>
     })
 }
 
-/// The text in quotes of which the opening quote stands before these bytes.
+// The text in quotes of which the opening quote stands before these bytes.
 fn text_front(rest: &[u8]) -> Result<Front, LexKind>
     ensures { result ≡ text_front rest.now }
 {
@@ -82,7 +82,7 @@ fn text_front(rest: &[u8]) -> Result<Front, LexKind>
     }
 }
 
-/// The longest sign at the front.
+// The longest sign at the front.
 fn sign_front(bytes: &[u8]) -> Result<Front, LexKind>
     ensures { result ≡ sign_front bytes.now }
 {

@@ -1,4 +1,4 @@
-//! What holds of the tokens of every text.
+// What holds of the tokens of every text.
 
 ghost use Rattle.std.specs.Prelude.{◌≡◌, ℕ, ◌+◌, ◌*◌, ◌<◌, ◌≤◌, ◌^◌, ◌⊎◌, ◌↔◌, ◌++◌, ◌∷◌, List, Some, None, Ok, Err, IsTrue, decimal, length, nat_eq};
 ghost use Rattle.std.specs.List.{starts_with};

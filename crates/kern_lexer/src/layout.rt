@@ -1,4 +1,4 @@
-//! What a line leaves to the next: open blocks and open brackets.
+// What a line leaves to the next: open blocks and open brackets.
 
 ghost use Rattle.std.specs.Prelude.{◌≡◌, reverse, OnOk};
 ghost use Rattle.kern_lexer.specs.Brackets.{open_after, without_last};
@@ -36,7 +36,7 @@ pub(crate) fn note_bracket(brackets: &mut Vec<Bracket>, kind: TokenKind) -> Resu
     Ok(())
 }
 
-/// Closes the last bracket where it is of this shape.
+// Closes the last bracket where it is of this shape.
 fn close(brackets: &mut Vec<Bracket>, shape: Bracket)
     ensures { reverse brackets.new.items ≡ without_last shape (reverse brackets.old.items) }
 {

@@ -1,4 +1,4 @@
-//! Going over the lines of a text.
+// Going over the lines of a text.
 
 ghost use Rattle.std.specs.Prelude.{◌≡◌, ◌<◌, ◌^◌, ◌++◌, ◌∷◌, [], List, IfErr, IfOk, MatchResult, OnOk, length, replicate};
 ghost use Rattle.kern_lexer.specs.Answers.{HasFault, HasTokens, IsEndOf, IsEndAt, IsMemory};
@@ -13,7 +13,7 @@ use crate::token::{Token, TokenKind};
 use crate::words::push_token;
 use std::alloc::{AllocError, Global};
 
-/// Ends a text that has so many widths open: a Dedent for each, and End.
+// Ends a text that has so many widths open: a Dedent for each, and End.
 fn end_text(tokens: &mut Vec<Token>, depth: usize, line: u32, at: usize) -> Result<(), AllocError>
     requires { at < 2 ^ 32 }
     ensures { OnOk result (

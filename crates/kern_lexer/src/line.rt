@@ -1,4 +1,4 @@
-//! Reading a line: its margin, its words and its end.
+// Reading a line: its margin, its words and its end.
 
 ghost use Rattle.std.specs.Prelude.{◌≡◌, ◌+◌, ◌<◌, ◌^◌, ◌++◌, Ok, IfErr, OnOk, ◌==◌, drop, length, position, reverse};
 ghost use Rattle.kern_lexer.specs.Lines.{without_comment, without_return};
@@ -12,7 +12,7 @@ use crate::token::{Token, TokenKind};
 use crate::words::read_words;
 use std::alloc::AllocError;
 
-/// A line without the carriage return that stands directly before its line feed.
+// A line without the carriage return that stands directly before its line feed.
 fn without_return(line: &[u8]) -> &[u8]
     ensures { result.now ≡ without_return line.now }
 {
@@ -26,7 +26,7 @@ pub(crate) fn place_of(byte: u8, bytes: &[u8]) -> Option<usize>
     bytes.iter().position(|b| *b == byte)
 }
 
-/// A line without its comment.
+// A line without its comment.
 fn without_comment(line: &[u8]) -> &[u8]
     ensures { result.now ≡ without_comment line.now }
 {
@@ -36,7 +36,7 @@ fn without_comment(line: &[u8]) -> &[u8]
     }
 }
 
-/// Ends a line that has tokens, which are those from `begun` on, where no bracket is open.
+// Ends a line that has tokens, which are those from `begun` on, where no bracket is open.
 fn end_line(
     tokens: &mut Vec<Token>,
     begun: usize,
@@ -53,7 +53,7 @@ fn end_line(
     Ok(())
 }
 
-/// Reads a line: its margin, its words, and its Newline.
+// Reads a line: its margin, its words, and its Newline.
 fn read_line(
     tokens: &mut Vec<Token>,
     layout: &mut Layout,

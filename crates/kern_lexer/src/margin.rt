@@ -1,7 +1,7 @@
-//! The leading spaces of a line against the widths that are open.
+// The leading spaces of a line against the widths that are open.
 
 ghost use Rattle.std.specs.Prelude.{◌≡◌, ◌+◌, ◌-◌, ◌<◌, ◌^◌, ◌++◌, Ok, IfErr, OnOk, drop, length, replicate, reverse, vec_len};
-ghost use Rattle.kern_lexer.specs.Margins.{closed_down_to, top_of, width_of};
+ghost use Rattle.kern_lexer.specs.Margins.{closed_down_to, leading_spaces, top_of};
 ghost use Rattle.kern_lexer.specs.Steps.{EndsReading, left_of, margin_marked, margin_read};
 ghost use Rattle.kern_lexer.specs.Tokens.{marks_at};
 
@@ -12,21 +12,21 @@ use crate::token::{Token, TokenKind};
 use crate::words::push_token;
 use std::alloc::AllocError;
 
-/// How many spaces a line begins with.
-fn width_of(code: &[u8]) -> usize
-    ensures { result ≡ width_of code.now }
+// How many spaces a line begins with.
+fn leading_spaces(code: &[u8]) -> usize
+    ensures { result ≡ leading_spaces code.now }
 {
     code.iter().take_while(|b| **b == b' ').count()
 }
 
-/// The last width that is open; below all lies 0.
+// The last width that is open; below all lies 0.
 fn top_of(widths: &[usize]) -> usize
     ensures { result ≡ top_of (reverse widths.now) }
 {
     widths.last().copied().unwrap_or(0)
 }
 
-/// Closes the widths above this one, each by a Dedent.
+// Closes the widths above this one, each by a Dedent.
 fn close_widths(
     tokens: &mut Vec<Token>,
     widths: &mut Vec<usize>,
@@ -48,7 +48,7 @@ fn close_widths(
     Ok(())
 }
 
-/// Compares a line's leading spaces with the widths that are open.
+// Compares a line's leading spaces with the widths that are open.
 fn mark_margin(
     tokens: &mut Vec<Token>,
     widths: &mut Vec<usize>,
@@ -79,12 +79,12 @@ fn mark_margin(
     }
 }
 
-/// A line without its leading spaces.
+// A line without its leading spaces.
 #[tactic(auto, using(crate::proofs::MarginLemmas::width_within))]
 fn without_spaces(code: &[u8]) -> &[u8]
-    ensures { result.now ≡ drop (width_of code.now) code.now }
+    ensures { result.now ≡ drop (leading_spaces code.now) code.now }
 {
-    &code[width_of(code)..]
+    &code[leading_spaces(code)..]
 }
 
 /// Compares the leading spaces of a line that begins outside brackets and has a token.
@@ -103,7 +103,7 @@ pub(crate) fn read_margin(
         (margin_read tokens.old.items (left_of layout.old) line at code.now)) }
     ensures brackets { layout.new.brackets ≡ layout.old.brackets }
 {
-    let width = width_of(code);
+    let width = leading_spaces(code);
     if layout.brackets.is_empty() && begins_token(without_spaces(code)) {
         mark_margin(tokens, &mut layout.widths, line, at + width, width)?;
     }

@@ -1,11 +1,11 @@
-//! Decimal and hexadecimal numbers.
+// Decimal and hexadecimal numbers.
 
 ghost use Rattle.std.specs.Prelude.{◌≡◌, ◌+◌, ◌*◌, ◌≤◌};
 ghost use Rattle.std.specs.Char.{is_ascii_hexdigit};
 ghost use Rattle.std.specs.List.{list_all};
 ghost use Rattle.kern_lexer.specs.Numbers.{is_decimal, is_hexadecimal, digit_value, value_of, within_limit, number_of};
 
-/// Whether a word is decimal digits, with single underscores between two of them.
+// Whether a word is decimal digits, with single underscores between two of them.
 fn is_decimal(word: &[u8]) -> bool
     ensures { result ≡ is_decimal word.now }
 {
@@ -26,14 +26,14 @@ fn are_hexadecimal_digits(digits: &[u8]) -> bool
     digits.iter().all(|b| b.is_ascii_hexdigit())
 }
 
-/// Whether a word is `0x` and digits of base 16.
+// Whether a word is `0x` and digits of base 16.
 fn is_hexadecimal(word: &[u8]) -> bool
     ensures { result ≡ is_hexadecimal word.now }
 {
     word.starts_with(b"0x") && word.len() > 2 && are_hexadecimal_digits(&word[2..])
 }
 
-/// The value of a digit of base 16.
+// The value of a digit of base 16.
 fn digit_value(b: u8) -> u64
     ensures { result ≡ digit_value b }
 {
@@ -45,7 +45,7 @@ fn digit_value(b: u8) -> u64
     value as u64
 }
 
-/// The value of one more digit, where it is at most 2^63 - 1.
+// The value of one more digit, where it is at most 2^63 - 1.
 fn one_more_digit(base: u64, value: u64, b: u8) -> Option<u64>
     ensures { result ≡ within_limit (base * value + digit_value b) }
 {
@@ -53,7 +53,7 @@ fn one_more_digit(base: u64, value: u64, b: u8) -> Option<u64>
     if value < 1 << 63 { Some(value) } else { None }
 }
 
-/// The value of digits in a base, where it is at most 2^63 - 1. An underscore counts for nothing.
+// The value of digits in a base, where it is at most 2^63 - 1. An underscore counts for nothing.
 fn value_of(base: u64, digits: &[u8]) -> Option<u64>
     requires { 1 ≤ base }
     ensures { result ≡ within_limit (value_of base digits.now) }

@@ -1,4 +1,4 @@
-//! How keywords and signs are spelled, and read.
+// How keywords and signs are spelled, and read.
 
 ghost use Rattle.std.specs.Prelude.{◌≡◌, ◌∷◌, find, slice_index};
 ghost use Rattle.kern_lexer.specs.Bytes.{Bytes};
@@ -87,7 +87,7 @@ pub(crate) fn key_of(word: &[u8]) -> Option<Key>
     if word == key.text() { Some(key) } else { None }
 }
 
-/// The keyword with this first and this last byte. No two have the same.
+// The keyword with this first and this last byte. No two have the same.
 fn key_between(first: u8, last: u8) -> Option<Key>
     ensures { result ≡ find (λ k. is_between first last (key_text k)) keys }
 {
@@ -127,7 +127,7 @@ pub(crate) fn sign_at(bytes: &[u8]) -> Option<Sign>
     }
 }
 
-/// The longest sign with this first byte, where this one follows it, or 0 where none does.
+// The longest sign with this first byte, where this one follows it, or 0 where none does.
 fn sign_of(first: u8, next: u8) -> Option<Sign>
     ensures { (rest : Bytes) → slice_index rest 0 ≡ next → result ≡ sign_at (first ∷ rest) }
 {

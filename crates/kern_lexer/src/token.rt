@@ -1,4 +1,4 @@
-//! Tokens.
+// Tokens.
 
 /// The words that are keywords and no names. They are Python's, as far as kernels use them.
 #[derive(Clone, Copy, PartialEq, Eq, Debug, Drop)]

@@ -1,4 +1,4 @@
-//! Reading the words of a line.
+// Reading the words of a line.
 
 ghost use Rattle.std.specs.Prelude.{◌≡◌, ◌+◌, ◌<◌, ◌≤◌, ◌^◌, ◌++◌, ◌∷◌, [], Ok, IfOk, IfErr, OnOk, length, reverse};
 ghost use Rattle.kern_lexer.specs.Steps.{EndsReading, step_from, words_read};
@@ -31,7 +31,7 @@ pub(crate) fn push_token(
     Ok(())
 }
 
-/// Reads what stands at the front of a line's bytes, and gives how many bytes that are.
+// Reads what stands at the front of a line's bytes, and gives how many bytes that are.
 fn read_front(
     tokens: &mut Vec<Token>,
     brackets: &mut Vec<Bracket>,

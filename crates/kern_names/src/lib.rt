@@ -12,4 +12,4 @@ pub use functions::{Functions, number_functions};
 pub use local_names::names_of;
 pub use names::{KnownName, Names};
 pub use scope::Scope;
-pub use types::{method_named, type_of, type_of_name};
+pub use types::{type_of, type_of_name};

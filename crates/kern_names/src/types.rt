@@ -2,17 +2,15 @@
 
 ghost use Rattle.std.specs.Prelude.{◌≡◌};
 ghost use Rattle.kern_syntax.specs.TreeOf.{expression_of};
-ghost use Rattle.kern_calls.specs.Calls.{method_named};
-ghost use Rattle.kern_calls.specs.Types.{call_type, result_type, type_of};
+ghost use Rattle.kern_calls.specs.Types.{call_type, type_of};
 ghost use Rattle.kern_names.specs.ScopeOf.{program_of, scope_of};
 
 use crate::functions::Functions;
 use crate::scope::Scope;
 use kern_calls::{
-    Operation, ValueType, binary_type, builtin_named, declared_type, literal_type, method_of,
-    object_named,
+    ValueType, binary_type, builtin_named, literal_type, method_named, method_type, result_type,
 };
-use kern_syntax::{DeclaredType, Expr};
+use kern_syntax::Expr;
 
 /// The type of an expression, if it is well typed.
 #[cycle(types)]
@@ -36,7 +34,10 @@ pub fn type_of(scope: &Scope<'_>, e: &Expr) -> ValueType
         | Expr::And(_, _)
         | Expr::Or(_, _) => ValueType::Bool,
         Expr::Call(function, _) => call_type(&scope.functions, function.bytes()),
-        Expr::Method(object, method, _) => method_type(object.bytes(), method.bytes()),
+        Expr::Method(object, name, _) => {
+            let method = method_named(object.bytes(), name.bytes());
+            method_type(method)
+        }
     }
 }
 
@@ -63,38 +64,5 @@ fn call_type(functions: &Functions<'_>, name: &[u8]) -> ValueType
     match builtin_named(name) {
         Some(builtin) => result_type(builtin.result()),
         None => result_type(functions.result(name)),
-    }
-}
-
-ghost use Rattle.std.specs.Prelude.{option_and_then};
-ghost use Rattle.kern_calls.specs.Calls.{operation_result};
-
-// The type that a method gives.
-fn method_type(object: &[u8], name: &[u8]) -> ValueType
-    ensures { result ≡ result_type (option_and_then operation_result (method_named object.now name.now)) }
-{
-    match method_named(object, name) {
-        Some(operation) => result_type(operation.result()),
-        None => result_type(None),
-    }
-}
-
-/// The method of a name of the object of a name.
-pub fn method_named(object: &[u8], name: &[u8]) -> Option<Operation>
-    ensures { result ≡ method_named object.now name.now }
-{
-    match object_named(object) {
-        Some(object) => method_of(object, name),
-        None => None,
-    }
-}
-
-// The type that a call gives; int64 where it gives none.
-fn result_type(declared: Option<DeclaredType>) -> ValueType
-    ensures { result ≡ result_type declared }
-{
-    match declared {
-        Some(declared) => declared_type(declared),
-        None => ValueType::Int64,
     }
 }

@@ -1,4 +1,4 @@
-//! Reading functions from the front of tokens.
+// Reading functions from the front of tokens.
 
 ghost use Rattle.std.specs.Prelude.{◌≡◌, ◌∷◌, false, true, map, IfErr, IfOk};
 ghost use Rattle.kern_grammar.specs.BlockPlans.{a_parameter, comma_parameter, def_plan, function_block, function_plan, is_comma, parameters_plan, result_plan};
@@ -18,7 +18,7 @@ use kern_statements::begins_with_comma;
 use kern_syntax::{DeclaredType, Function, Identifier, Parameter, ParameterList};
 use std::alloc::{AllocError, Global};
 
-/// The nestings of blocks that may be opened in the block of a function.
+// The nestings of blocks that may be opened in the block of a function.
 const ROOM: u32 = 15;
 
 /// A function, its decorator included.
@@ -32,7 +32,7 @@ pub fn function_at<'a>(
     decorated_at(alloc, tokens)
 }
 
-/// A function with or without a decorator.
+// A function with or without a decorator.
 fn decorated_at<'a>(
     alloc: Global,
     tokens: Tokens<'a>,
@@ -52,7 +52,7 @@ fn decorated_at<'a>(
     }
 }
 
-/// A function behind the sign of its decorator.
+// A function behind the sign of its decorator.
 fn behind_at_sign<'a>(
     alloc: Global,
     tokens: Tokens<'a>,
@@ -64,7 +64,7 @@ fn behind_at_sign<'a>(
     definition_at(alloc, rest)
 }
 
-/// A function from its `def` on.
+// A function from its `def` on.
 fn definition_at<'a>(
     alloc: Global,
     tokens: Tokens<'a>,
@@ -78,7 +78,7 @@ fn definition_at<'a>(
     }
 }
 
-/// A function whose `def` stands on a line.
+// A function whose `def` stands on a line.
 fn defined_at<'a>(
     alloc: Global,
     line: u32,
@@ -93,7 +93,7 @@ fn defined_at<'a>(
     parameters_at(alloc, line, name, rest)
 }
 
-/// A function from what follows the opening parenthesis of its parameters on.
+// A function from what follows the opening parenthesis of its parameters on.
 fn parameters_at<'a>(
     alloc: Global,
     line: u32,
@@ -116,7 +116,7 @@ fn parameters_at<'a>(
     }
 }
 
-/// A function from its first parameter on.
+// A function from its first parameter on.
 fn some_parameters_at<'a>(
     alloc: Global,
     line: u32,
@@ -132,7 +132,7 @@ fn some_parameters_at<'a>(
     further_parameters_at(alloc, line, function, Parameter { name, declared }, rest)
 }
 
-/// A function from what follows its first parameter on.
+// A function from what follows its first parameter on.
 fn further_parameters_at<'a>(
     alloc: Global,
     line: u32,
@@ -149,7 +149,7 @@ fn further_parameters_at<'a>(
     result_at(alloc, line, function, parameters, rest)
 }
 
-/// A parameter before others.
+// A parameter before others.
 fn with_first(first: Parameter, more: Vec<Parameter>) -> Result<Vec<Parameter>, AllocError>
     ensures { IfOk result (λ v. map parameter_of v.items ≡ parameter_of first ∷ map parameter_of more.items) }
 {
@@ -158,7 +158,7 @@ fn with_first(first: Parameter, more: Vec<Parameter>) -> Result<Vec<Parameter>, 
     Ok(parameters)
 }
 
-/// The further parameters, each behind a comma.
+// The further parameters, each behind a comma.
 fn more_parameters_at<'a>(
     alloc: Global,
     tokens: Tokens<'a>,
@@ -176,7 +176,7 @@ fn more_parameters_at<'a>(
     Ok((parameters, rest))
 }
 
-/// A comma and a parameter.
+// A comma and a parameter.
 fn comma_parameter_at<'a>(
     alloc: Global,
     tokens: Tokens<'a>,
@@ -195,7 +195,7 @@ fn comma_parameter_at<'a>(
     }
 }
 
-/// A parameter.
+// A parameter.
 fn parameter_at<'a>(
     alloc: Global,
     tokens: Tokens<'a>,
@@ -208,7 +208,7 @@ fn parameter_at<'a>(
     Ok((Parameter { name, declared }, rest))
 }
 
-/// A function from what follows the closing parenthesis of its parameters on.
+// A function from what follows the closing parenthesis of its parameters on.
 fn result_at<'a>(
     alloc: Global,
     line: u32,
@@ -232,7 +232,7 @@ fn result_at<'a>(
     }
 }
 
-/// A function from the type of its result on.
+// A function from the type of its result on.
 fn typed_result_at<'a>(
     alloc: Global,
     line: u32,
@@ -248,7 +248,7 @@ fn typed_result_at<'a>(
     body_at(alloc, line, name, parameters, Some(declared), rest)
 }
 
-/// The block of a function whose header was read.
+// The block of a function whose header was read.
 fn body_at<'a>(
     alloc: Global,
     line: u32,

@@ -1,4 +1,4 @@
-//! The tree of a text's tokens.
+// The tree of a text's tokens.
 
 ghost use Rattle.std.specs.Prelude.{◌≡◌, ◌<◌, ◌^◌, ℕ, length, IfOk, IfErr, MatchResult, Ok};
 ghost use Rattle.kern_canonical.specs.Printing.{PrintsBack};

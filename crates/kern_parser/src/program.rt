@@ -1,4 +1,4 @@
-//! Reading the functions of a program and the End.
+// Reading the functions of a program and the End.
 
 ghost use Rattle.std.specs.Prelude.{◌≡◌, map, IfErr};
 ghost use Rattle.kern_grammar.specs.BlockPlans.{function_plan, is_function, program_plan};
@@ -29,7 +29,7 @@ pub fn program_at<'a>(
     Ok((Program::of(functions), rest))
 }
 
-/// Whether a function follows, which the End doesn't.
+// Whether a function follows, which the End doesn't.
 fn begins_function(tokens: Tokens) -> bool
     ensures { result ≡ begins_with is_function (lexemes_left tokens.entry) }
 {
@@ -39,7 +39,7 @@ fn begins_function(tokens: Tokens) -> bool
     }
 }
 
-/// The functions behind the first, and the first before them.
+// The functions behind the first, and the first before them.
 fn functions_at<'a>(
     alloc: Global,
     first: Function,
@@ -59,7 +59,7 @@ fn functions_at<'a>(
     Ok((functions, rest))
 }
 
-/// The End.
+// The End.
 fn text_end_at<'a>(tokens: Tokens<'a>) -> Result<Tokens<'a>, WrongToken<'a>>
     ensures { FindsRest result (perform (a_token text_end) (lexemes_left tokens.entry)) }
 {

@@ -1,4 +1,4 @@
-//! The headers of blocks, up to their colons.
+// The headers of blocks, up to their colons.
 
 ghost use Rattle.std.specs.Prelude.{◌≡◌, None, true};
 ghost use Rattle.kern_grammar.specs.BlockPlans.{range_plan};
@@ -43,7 +43,7 @@ pub fn bounds_at<'a>(alloc: Global, tokens: Tokens<'a>) -> Result<(Bounds, Token
     bracketed_bounds_at(alloc, rest)
 }
 
-/// The bounds of a `for` in their parentheses.
+// The bounds of a `for` in their parentheses.
 fn bracketed_bounds_at<'a>(
     alloc: Global,
     tokens: Tokens<'a>,
@@ -56,14 +56,14 @@ fn bracketed_bounds_at<'a>(
     bounds_end_at(alloc, first, rest)
 }
 
-/// The bounds from 0 to below a number.
+// The bounds from 0 to below a number.
 fn below(to: Expr) -> Bounds
     ensures { bounds_of result ≡ (None, expression_of to) }
 {
     Bounds { from: None, to }
 }
 
-/// The upper bound behind a lower one, if there is one, and the closing parenthesis.
+// The upper bound behind a lower one, if there is one, and the closing parenthesis.
 fn bounds_end_at<'a>(
     alloc: Global,
     first: Expr,
@@ -85,7 +85,7 @@ fn bounds_end_at<'a>(
     }
 }
 
-/// The upper bound behind a lower one and its comma, and the closing parenthesis.
+// The upper bound behind a lower one and its comma, and the closing parenthesis.
 fn upper_bound_at<'a>(
     alloc: Global,
     from: Expr,
@@ -128,7 +128,7 @@ pub fn with_item_at<'a>(tokens: Tokens<'a>) -> Result<(WithItem, Tokens<'a>), Wr
     }
 }
 
-/// The name of a recording, from the dot behind `core_dma` on.
+// The name of a recording, from the dot behind `core_dma` on.
 fn recording_at<'a>(tokens: Tokens<'a>) -> Result<(WithItem, Tokens<'a>), WrongToken<'a>>
     ensures { FindsTaken (λ item. item) result
         (perform (with_head (λ item. done item) recording) (lexemes_left tokens.entry)) }
@@ -138,7 +138,7 @@ fn recording_at<'a>(tokens: Tokens<'a>) -> Result<(WithItem, Tokens<'a>), WrongT
     recording_name_at(rest)
 }
 
-/// The name of a recording in its parentheses.
+// The name of a recording in its parentheses.
 fn recording_name_at<'a>(tokens: Tokens<'a>) -> Result<(WithItem, Tokens<'a>), WrongToken<'a>>
     ensures { FindsTaken (λ item. item) result
         (perform (recording_name_plan (λ item. done item)) (lexemes_left tokens.entry)) }
@@ -147,7 +147,7 @@ fn recording_name_at<'a>(tokens: Tokens<'a>) -> Result<(WithItem, Tokens<'a>), W
     quoted_recording_at(rest)
 }
 
-/// The quoted name of a recording, and the closing parenthesis.
+// The quoted name of a recording, and the closing parenthesis.
 fn quoted_recording_at<'a>(tokens: Tokens<'a>) -> Result<(WithItem, Tokens<'a>), WrongToken<'a>>
     ensures { FindsTaken (λ item. item) result
         (perform (quoted_recording_plan (λ item. done item)) (lexemes_left tokens.entry)) }

@@ -1,4 +1,4 @@
-//! Reading statements that stand on one line, from the front of tokens.
+// Reading statements that stand on one line, from the front of tokens.
 
 ghost use Rattle.std.specs.Prelude.{◌≡◌, [], ◌∷◌, false, true, map, option_map, IfOk};
 ghost use Rattle.kern_grammar.specs.Plans.{many, peek, run, token};
@@ -14,7 +14,7 @@ use kern_lexer::{Key, Sign, TokenKind};
 use kern_syntax::{Augment, Expr, Identifier, Stmt, StmtKind, Target};
 use std::alloc::{AllocError, Global};
 
-/// What an expression assigns to, if it is a name or an element of an array.
+// What an expression assigns to, if it is a name or an element of an array.
 fn target_of(e: Expr) -> Option<Target>
     ensures { option_map place_of_target result ≡ place_of (expression_of e) }
 {
@@ -25,7 +25,7 @@ fn target_of(e: Expr) -> Option<Target>
     }
 }
 
-/// A statement at the end of its line.
+// A statement at the end of its line.
 fn ended_statement(statement: Stmt, tokens: Tokens) -> Result<(Stmt, Tokens), WrongToken>
     ensures { FindsTaken line_of_statement result
         (perform (end_line (line_of_statement statement)) (lexemes_left tokens.entry)) }
@@ -34,7 +34,7 @@ fn ended_statement(statement: Stmt, tokens: Tokens) -> Result<(Stmt, Tokens), Wr
     Ok((statement, rest))
 }
 
-/// The value of an assignment to a target, and the end of the line.
+// The value of an assignment to a target, and the end of the line.
 fn assigned_value_at<'a>(
     alloc: Global,
     line: u32,
@@ -50,7 +50,7 @@ fn assigned_value_at<'a>(
     Ok((Stmt { line, kind }, rest))
 }
 
-/// The value of an augmented assignment to a target, and the end of the line.
+// The value of an augmented assignment to a target, and the end of the line.
 fn augmented_value_at<'a>(
     alloc: Global,
     line: u32,
@@ -67,7 +67,7 @@ fn augmented_value_at<'a>(
     Ok((Stmt { line, kind }, rest))
 }
 
-/// The value of a `return`, or none, and the end of the line.
+// The value of a `return`, or none, and the end of the line.
 fn returned_at<'a>(
     alloc: Global,
     line: u32,
@@ -88,7 +88,7 @@ fn returned_at<'a>(
     }
 }
 
-/// The value of a `return`, and the end of the line.
+// The value of a `return`, and the end of the line.
 fn returned_value_at<'a>(
     alloc: Global,
     line: u32,
@@ -103,7 +103,7 @@ fn returned_value_at<'a>(
     Ok((Stmt { line, kind }, rest))
 }
 
-/// The length of an array of one repeated element, and the end of the line.
+// The length of an array of one repeated element, and the end of the line.
 fn repeated_at<'a>(
     line: u32,
     name: Identifier,
@@ -125,7 +125,7 @@ fn repeated_at<'a>(
     }
 }
 
-/// An array of these elements, of which there is a first.
+// An array of these elements, of which there is a first.
 fn listed(
     alloc: Global,
     line: u32,
@@ -142,7 +142,7 @@ fn listed(
     Ok(Stmt { line, kind })
 }
 
-/// An array of one element or of one that is repeated, from what follows the closing bracket on.
+// An array of one element or of one that is repeated, from what follows the closing bracket on.
 fn one_element_at<'a>(
     alloc: Global,
     line: u32,
@@ -166,7 +166,7 @@ fn one_element_at<'a>(
     }
 }
 
-/// A comma and an element of an array.
+// A comma and an element of an array.
 fn comma_element_at<'a>(
     alloc: Global,
     tokens: Tokens<'a>,
@@ -192,8 +192,8 @@ pub fn begins_with_comma(tokens: Tokens) -> bool
     }
 }
 
-/// An assignment to a name or to an element, or an expression alone, by what follows the
-/// expression that the statement begins with.
+// An assignment to a name or to an element, or an expression alone, by what follows the
+// expression that the statement begins with.
 fn deed_at<'a>(
     alloc: Global,
     line: u32,
@@ -239,7 +239,7 @@ fn deed_at<'a>(
     }
 }
 
-/// The value of an assignment: an array or an expression for a name, an expression for an element.
+// The value of an assignment: an array or an expression for a name, an expression for an element.
 fn assigned_at<'a>(
     alloc: Global,
     line: u32,
@@ -257,7 +257,7 @@ fn assigned_at<'a>(
     }
 }
 
-/// The value of an assignment to a name: an array or an expression.
+// The value of an assignment to a name: an array or an expression.
 fn name_assigned_at<'a>(
     alloc: Global,
     line: u32,
@@ -279,8 +279,8 @@ fn name_assigned_at<'a>(
     }
 }
 
-/// The elements of an array, of which the first is an expression, with the closing bracket and
-/// the end of the line.
+// The elements of an array, of which the first is an expression, with the closing bracket and
+// the end of the line.
 fn array_at<'a>(
     alloc: Global,
     line: u32,
@@ -295,7 +295,7 @@ fn array_at<'a>(
     array_end_at(alloc, line, name, first, more, rest)
 }
 
-/// What follows the closing bracket of an array.
+// What follows the closing bracket of an array.
 fn array_end_at<'a>(
     alloc: Global,
     line: u32,
@@ -315,7 +315,7 @@ fn array_end_at<'a>(
     Ok((statement, rest))
 }
 
-/// The further elements of an array, each behind a comma.
+// The further elements of an array, each behind a comma.
 fn more_elements_at<'a>(
     alloc: Global,
     tokens: Tokens<'a>,
@@ -333,7 +333,7 @@ fn more_elements_at<'a>(
     Ok((elements, rest))
 }
 
-/// A statement that begins with an expression.
+// A statement that begins with an expression.
 fn expression_statement_at<'a>(
     alloc: Global,
     line: u32,

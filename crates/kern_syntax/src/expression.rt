@@ -1,4 +1,4 @@
-//! Expressions.
+// Expressions.
 
 use crate::Identifier;
 use rtio_types::Name;

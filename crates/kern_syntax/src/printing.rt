@@ -1,4 +1,4 @@
-//! The canonical text of a program: of all spellings of a tree, the one that is printed.
+// The canonical text of a program: of all spellings of a tree, the one that is printed.
 
 mod expressions;
 mod lines;
@@ -26,7 +26,7 @@ pub fn print(alloc: Global, program: &Program) -> Result<Vec<u8>, AllocError>
     Ok(text)
 }
 
-/// Appends some bytes to the text.
+// Appends some bytes to the text.
 fn put(text: &mut Vec<u8>, bytes: &[u8]) -> Result<(), AllocError>
     ensures { OnOk result (text.new.items ≡ text.old.items ++ bytes.now) }
 {
@@ -44,7 +44,7 @@ fn put_function(text: &mut Vec<u8>, function: &Function) -> Result<(), AllocErro
     put_body(text, 0, &function.body)
 }
 
-/// Appends a function's header up to its colon.
+// Appends a function's header up to its colon.
 fn put_header(text: &mut Vec<u8>, function: &Function) -> Result<(), AllocError>
     ensures { OnOk result (text.new.items ≡ text.old.items ++ header_text (function_of function.now)) }
 {

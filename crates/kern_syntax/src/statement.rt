@@ -1,4 +1,4 @@
-//! Statements.
+// Statements.
 
 use crate::{Expr, Identifier};
 use rtio_types::Name;

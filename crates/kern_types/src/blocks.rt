@@ -11,7 +11,7 @@ use kern_expression_types::{Known, Locals, Place, TypeEnd, TypeKind, is_exceptio
 use kern_syntax::{Block, Elif, Handler, StmtKind};
 use std::alloc::Global;
 
-/// The same place at another line.
+// The same place at another line.
 fn at_line(place: Place, line: u32) -> Place
     ensures { result ≡ at_line place line }
 {

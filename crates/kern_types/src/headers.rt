@@ -12,7 +12,7 @@ use kern_expression_types::{Known, Locals, Place, TypeEnd, TypeKind, refuse_if};
 use kern_syntax::{Function, Parameter};
 use std::alloc::Global;
 
-/// The most parameters of a function.
+// The most parameters of a function.
 const MOST_PARAMETERS: usize = 8;
 
 /// Checks the parameters and the body of a function.

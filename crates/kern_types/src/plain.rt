@@ -7,7 +7,7 @@ ghost use Rattle.kern_expression_types.specs.Before.{is_in};
 ghost use Rattle.kern_calls.specs.Calls.{builtin_named, method_named};
 ghost use Rattle.kern_types.specs.Plain.{is_plain_call, is_plain_method, is_plain_expression, are_plain_arguments, is_plain_block, is_plain_statement, is_plain_otherwise, are_plain_handlers, is_plain_function};
 
-use kern_calls::{builtin_named, method_of, object_named};
+use kern_calls::{builtin_named, method_named};
 use kern_expression_types::NameList;
 use kern_syntax::{Argument, Block, Elif, Expr, Function, Handler, StmtKind, Target};
 
@@ -38,11 +38,8 @@ fn is_plain_call(plain: &NameList, own: &[u8], name: &[u8]) -> bool
 fn is_plain_method(object: &[u8], name: &[u8]) -> bool
     ensures { result ≡ is_plain_method (method_named object.now name.now) }
 {
-    match object_named(object) {
-        Some(object) => match method_of(object, name) {
-            Some(operation) => !operation.is_live(),
-            None => true,
-        },
+    match method_named(object, name) {
+        Some(operation) => !operation.is_live(),
         None => true,
     }
 }

@@ -18,7 +18,7 @@ use kern_expression_types::{
 use kern_syntax::Function;
 use std::alloc::Global;
 
-/// The most functions of a program.
+// The most functions of a program.
 const MOST_FUNCTIONS: usize = 256;
 
 /// Checks the functions of a program.

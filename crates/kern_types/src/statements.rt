@@ -16,10 +16,10 @@ use kern_expression_types::{
 use kern_syntax::{Expr, StmtKind, Target};
 use std::alloc::Global;
 
-/// The most names of a function, its parameters among them.
+// The most names of a function, its parameters among them.
 const MOST_NAMES: usize = 64;
 
-/// The longest array.
+// The longest array.
 const LONGEST_ARRAY: u64 = 512;
 
 /// Checks a statement without a block.

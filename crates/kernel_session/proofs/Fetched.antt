@@ -16,7 +16,7 @@ use Rattle.core_isa.specs.declared.instr.Instr.{Instr}
 use Rattle.core_isa.specs.declared.instr.Instr.TheVariants as I
 use Rattle.core_isa.specs.Machine.{OpenRecording, Machine, MachineEnd, Next, goes, ends, stuck, returned, raised, budget, unanswered, with_operands, opened_by, cursor_before, drop_recording, answered, unit_of, ask_then}
 use Rattle.core_isa.specs.Marks.{is_live, IsRightPlace, Marked, HasOrder}
-use Rattle.core_isa.specs.Runs.{Ran, Runs, Gives, counted, step_at, step, go_on, steps, boot}
+use Rattle.core_isa.specs.Runs.{Ran, Runs, Gives, counted, step_by, step, go_on, steps, boot}
 use Rattle.core_isa.specs.Sound.{opened_below, IsOpenedWithin, IsSound, StaysSound}
 use Rattle.core_isa.specs.Steps.{on_first, on_some, play_events, play_reply, play, act}
 use Rattle.core_isa.proofs.Decided.{found_one}
@@ -139,7 +139,7 @@ module _ (code : Code) (order : HasOrder code) (marked : Marked code) (recording
   step_plays : (m : Machine) → IsSound code m → Plays recording rest (step code m) (step code (more (R.Trace recording ∷ rest) m))
   step_plays m sound = by_line (slice_get code.lines m.top.place) refl
     where
-      by_line : (o : Option CodeLine) → slice_get code.lines m.top.place ≡ o → Plays recording rest (step_at code o m) (step_at code o (more (R.Trace recording ∷ rest) m))
+      by_line : (o : Option CodeLine) → slice_get code.lines m.top.place ≡ o → Plays recording rest (step_by code o m) (step_by code o (more (R.Trace recording ∷ rest) m))
       by_line None found = tt
       by_line (Some line) found = act_plays recording rest code line.instr (counted m) (none_open code order marked m sound line found)
 
@@ -174,7 +174,7 @@ module _ (code : Code) (order : HasOrder code) (marked : Marked code) (recording
       step_both : (m : Machine) → Extends given' (step code m) (step code (more given' m))
       step_both m = by_line (slice_get code.lines m.top.place)
         where
-          by_line : (o : Option CodeLine) → Extends given' (step_at code o m) (step_at code o (more given' m))
+          by_line : (o : Option CodeLine) → Extends given' (step_by code o m) (step_by code o (more given' m))
           by_line None = tt
           by_line (Some line) = act_both given' code line.instr (counted m)
 

@@ -14,7 +14,7 @@ use Rattle.core_isa.specs.declared.code.CodeLine.{CodeLine}
 use Rattle.core_isa.specs.declared.instr.Instr.{Instr}
 use Rattle.core_isa.specs.declared.instr.Instr.TheVariants as I
 use Rattle.core_isa.specs.Machine.{HandlerPoint, Frame, OpenRecording, Machine, MachineEnd, Next, goes, ends, stuck, returned, raised, budget, unanswered, with_operands, with_slots, at_place, next, push, raise, exception_of, ask_then}
-use Rattle.core_isa.specs.Runs.{Ran, Runs, Gives, counted, step_at, step, go_on, steps, boot}
+use Rattle.core_isa.specs.Runs.{Ran, Runs, Gives, counted, step_by, step, go_on, steps, boot}
 use Rattle.core_isa.specs.Steps.{on_one, on_two, on_some, push_or_raise, array_at, with_array, index_in, store_slot, index_or_raise, load_at, store_at, submit_or_collect, event_at, output, ask_number, ask_only, play, open_recording, save_request, save_recording, enter_if, call_if, call, leave, return_from, end_try, jump_if_zero, named, act}
 use Rattle.core_isa.proofs.Lighter.{first_any, two_any, some_any}
 use Rattle.kernel_session.proofs.RepliesLeft.{Together, StaysTogether, raise_together, unit_together, ask_together, number_together, only_together, play_together}
@@ -184,7 +184,7 @@ module _ (total : ℕ) (code : Code) where
   step_together : (m : Machine) → Together total m → StaysTogether total (step code m)
   step_together m so = by_line (slice_get code.lines m.top.place)
     where
-      by_line : (o : Option CodeLine) → StaysTogether total (step_at code o m)
+      by_line : (o : Option CodeLine) → StaysTogether total (step_by code o m)
       by_line None = tt
       by_line (Some line) = act_together total code (counted m) so line.instr
 

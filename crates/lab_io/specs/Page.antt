@@ -17,12 +17,12 @@ pub record PageState : Type 0 where
   pub faults : ℕ
 
 -- whether the page has no room left
-abbrev pub is_full : PageState → Bool
-is_full page = nat_le page.room (length page.held)
+abbrev pub is_full_page : PageState → Bool
+is_full_page page = nat_le page.room (length page.held)
 
 -- whether a write of so many bytes fails: by its number, or for want of room
 abbrev pub write_fails : PageState → ℕ → Bool
-write_fails page count = is_chosen page.fails page.calls || (nat_lt 0 count && is_full page)
+write_fails page count = is_chosen page.fails page.calls || (nat_lt 0 count && is_full_page page)
 
 -- how many of so many bytes a write takes
 abbrev pub write_count : PageState → ℕ → ℕ

@@ -100,7 +100,7 @@ fn move_piece(from: &[u8], to: &mut [u8], piece: u64) -> usize
     count
 }
 
-// Whether a call's number is one of those that fail.
+/// Whether a call's number is one of those that fail.
 pub(crate) fn stands_in(fails: &[u64], call: u64) -> bool
     ensures { result ≡ is_chosen fails.now call }
 {

@@ -12,7 +12,7 @@ use rtio_core::{Ask, Core, what_is_decided_stays_decided};
 use rtio_types::{Reply, Request};
 use std::alloc::{AllocError, Global};
 
-/// How many cycles a core goes on while it is held once, at most.
+// How many cycles a core goes on while it is held once, at most.
 const MOST_TICKS: u64 = 4_096;
 
 /// What became of a request.

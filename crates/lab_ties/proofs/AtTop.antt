@@ -32,15 +32,15 @@ use Rattle.lab_ties.specs.Ties.{AreTied, report_on, step_begun, step_of, steps_b
 abbrev start_entry : ℕ → StartOf → ℤ → ℕ → Entry
 start_entry chair of cursor at = entry_of chair (Start of cursor at)
 
-abbrev step_at : StartOf → ℕ × ℕ
-step_at of = (of.rid, of.pos)
+abbrev start_step : StartOf → ℕ × ℕ
+start_step of = (of.rid, of.pos)
 
 -- the steps that a chair begins on a core
 abbrev begun : ℕ → List Entry → List (ℕ × ℕ)
 begun chair history = steps_begun (core_acts chair history)
 
 begun-split : (chair : ℕ) (front back : List Entry) (of : StartOf) (cursor : ℤ) (at : ℕ)
-    → begun chair (front ++ start_entry chair of cursor at ∷ back) ≡ begun chair front ++ step_at of ∷ begun chair back
+    → begun chair (front ++ start_entry chair of cursor at ∷ back) ≡ begun chair front ++ start_step of ∷ begun chair back
 begun-split chair front back of cursor at =
     ap steps_begun (acts-append chair front (start_entry chair of cursor at ∷ back))
     ∙ filter_map-append step_begun (core_acts chair front) (core_acts chair (start_entry chair of cursor at ∷ back))
@@ -68,20 +68,20 @@ split-cases {X} (z ∷ front) rest (w ∷ other) more x y is =
     behind head (inr (inr (m, same))) = inr (inr (m, cc))
 
 -- no step is begun twice where all that are begun differ
-begun-once : (chair : ℕ) (front mid back : List Entry) (of other : StartOf) (cursor later : ℤ) (at then : ℕ) → step_at other ≡ step_at of
+begun-once : (chair : ℕ) (front mid back : List Entry) (of other : StartOf) (cursor later : ℤ) (at then : ℕ) → start_step other ≡ start_step of
     → AreApart (begun chair (front ++ start_entry chair of cursor at ∷ (mid ++ start_entry chair other later then ∷ back))) → ⊥
 begun-once chair front mid back of other cursor later at then same apart =
-    not-twice (begun chair front) (begun chair mid) (begun chair back) (step_at of)
+    not-twice (begun chair front) (begun chair mid) (begun chair back) (start_step of)
     (subst AreApart (
     begun-split chair front (mid ++ start_entry chair other later then ∷ back) of cursor at
-    ∙ ap (λ (l : List (ℕ × ℕ)). begun chair front ++ step_at of ∷ l) (begun-split chair mid back other later then)
-    ∙ ap (λ (s : ℕ × ℕ). begun chair front ++ step_at of ∷ (begun chair mid ++ s ∷ begun chair back)) same
+    ∙ ap (λ (l : List (ℕ × ℕ)). begun chair front ++ start_step of ∷ l) (begun-split chair mid back other later then)
+    ∙ ap (λ (s : ℕ × ℕ). begun chair front ++ start_step of ∷ (begun chair mid ++ s ∷ begun chair back)) same
     ) apart)
 
 -- two starts of one step are one
 one-start : (chair : ℕ) (history front rest other more : List Entry) (of its : StartOf) (cursor later : ℤ) (at then : ℕ) → AreApart (begun chair history)
     → history ≡ front ++ start_entry chair of cursor at ∷ rest → history ≡ other ++ start_entry chair its later then ∷ more
-    → step_at its ≡ step_at of → front ≡ other
+    → start_step its ≡ start_step of → front ≡ other
 one-start chair history front rest other more of its cursor later at then apart is stands same =
     by (split-cases front rest other more (start_entry chair of cursor at) (start_entry chair its later then) (sym is ∙ stands))
   where
@@ -131,12 +131,12 @@ starts-sessions session pipeline config sched history ok lawful tied before rest
     let t = tied chair in
     let apart : AreApart (begun chair history) =
     subst AreApart (ap (map reported_step) t.told ∙ told-steps t.done ∙ sym t.begun) (told-apart session pipeline chair sched ok lawful) in
-    let split : map step_of t.done ≡ begun chair before ++ step_at of ∷ begun chair rest =
+    let split : map step_of t.done ≡ begun chair before ++ start_step of ∷ begun chair rest =
     sym t.begun ∙ ap (begun chair) is ∙ begun-split chair before rest of cursor at in
-    let found = found-step (IsKernelStep session config sched pipeline chair history) t.done (begun chair before) (begun chair rest) (step_at of) t.right split in
+    let found = found-step (IsKernelStep session config sched pipeline chair history) t.done (begun chair before) (begun chair rest) (start_step of) t.right split in
     (found.0, placed found.2.program found.0 found.2.is_session apart found.1)
   where
-    placed : (program : ProgramTree) (k : KernelRun) (one : IsSession session program config chair history k) → AreApart (begun chair history) → step_of k ≡ step_at of
+    placed : (program : ProgramTree) (k : KernelRun) (one : IsSession session program config chair history k) → AreApart (begun chair history) → step_of k ≡ start_step of
         → HasSession config chair before (start_entry chair of cursor at ∷ rest) k
     placed program k one apart same =
         let own : List Entry = map (asked_entry chair) k.asked ++ entry_of chair (End k.how k.cursor k.ended) ∷ [] in

@@ -1,4 +1,4 @@
-//! What lasts while histories grow, how a tie grows with them, and what the ties make of a whole history.
+// What lasts while histories grow, how a tie grows with them, and what the ties make of a whole history.
 
 ghost use Rattle.lab_ties.specs.Laws.{CoresAreAskedAtTop, JudgementsLast, KernelsAreSteps, TiesGrow, TiesLast};
 

@@ -9,10 +9,10 @@ use rtio_core::Core;
 use std::sync::Wait;
 use std::thread;
 
-/// How many cycles a core goes on while it is held once, at most.
+// How many cycles a core goes on while it is held once, at most.
 const MOST_TICKS: u64 = 4_096;
 
-/// How often a worker with nothing to do gives the processor away before it asks again.
+// How often a worker with nothing to do gives the processor away before it asks again.
 const TIMES_GIVEN_WAY: u32 = 256;
 
 /// Lets each core tick on: takes it, lets it go on up to where it stops, 4,096 cycles at most, and puts it back.

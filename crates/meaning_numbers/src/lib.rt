@@ -3,7 +3,6 @@
 
 mod arithmetic;
 mod operators;
-mod width;
 
 pub use arithmetic::{low_byte, low_signed, low_word, moved_on};
 pub use operators::{changed, compared, operated};

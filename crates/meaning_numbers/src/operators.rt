@@ -7,8 +7,7 @@ ghost use Rattle.meaning_numbers.specs.Widths.{IsShiftWidth};
 ghost use Rattle.timeline_sem.specs.Numbers.{compares, exact_result, unary_result};
 
 use crate::arithmetic::{low_signed, quotient, remainder, shifted_left, shifted_right};
-use crate::width::bits_of;
-use kern_calls::ValueType;
+use kern_calls::{ValueType, bits_of};
 use kern_syntax::{BinaryOperator, Comparison, UnaryOperator};
 
 // A number wrapped at the width of a type.

@@ -5,7 +5,7 @@ use crate::state::State;
 use meaning_numbers::{low_word, moved_on};
 use rtio_types::{Event, Reply, Request};
 
-/// The lead that the cursor gets over a reading of the counter, in mu.
+// The lead that the cursor gets over a reading of the counter, in mu.
 const LEAD: i64 = 125_000;
 
 impl<'a> State<'a> {

@@ -8,8 +8,8 @@ ghost use Rattle.kern_names.specs.ScopeOf.{scope_of};
 ghost use Rattle.meaning_state.specs.Does.{Does};
 ghost use Rattle.timeline_sem.specs.Expressions.{array_in, perform_builtin, perform_method, text_in};
 
-use kern_calls::{Builtin, ValueType};
-use kern_names::{Scope, method_named};
+use kern_calls::{Builtin, ValueType, method_named};
+use kern_names::Scope;
 use kern_syntax::{Argument, Expr, Identifier};
 use meaning_numbers::low_signed;
 use meaning_state::{Early, State, first_number, perform};

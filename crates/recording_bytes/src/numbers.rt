@@ -6,7 +6,7 @@ ghost use Rattle.recording_bytes.specs.Numbers.{few_bytes, folded, is_short, num
 use std::alloc::AllocError;
 
 /// How many bytes a number needs: none for 0.
-pub fn width_of(number: u64) -> u8
+pub fn bytes_needed(number: u64) -> u8
     ensures value { result ≡ length (few_bytes 8 number) }
     ensures most { result ≤ 8 }
 {

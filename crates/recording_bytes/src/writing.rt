@@ -7,7 +7,7 @@ ghost use Rattle.recording_bytes.specs.Spelling.{IsSpellingIn, FitsFields, heade
 ghost use Rattle.recording_bytes.specs.declared.format.Format.TheVariants.{Short};
 
 use crate::format::{FRONT, HEADER, SHORT};
-use crate::numbers::{folded, width_of, write_number};
+use crate::numbers::{bytes_needed, folded, write_number};
 use rtio_types::{Event, Recording};
 use std::alloc::{AllocError, Global};
 
@@ -47,7 +47,7 @@ fn write_event(bytes: &mut Vec<u8>, before: i64, event: &Event) -> Result<(), Al
 {
     let data = u64::from(event.value);
     let step = folded(event.stamp.wrapping_sub(before));
-    let widths = width_of(data) + 16 * width_of(step);
+    let widths = bytes_needed(data) + 16 * bytes_needed(step);
     bytes.extend_from_slice(&[event.channel, event.address, widths])?;
     write_number(bytes, data)?;
     write_number(bytes, step)?;

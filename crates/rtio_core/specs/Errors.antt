@@ -1,11 +1,11 @@
 -- That no error comes without a reason.
-use Rattle.std.specs.Prelude.{◌≢◌, ℕ, ◌<◌, ◌/◌, List, [], ◌∷◌, ◌++◌, length, nat_lt, IsTrue}
+use Rattle.std.specs.Prelude.{◌≢◌, ℕ, ◌<◌, List, [], ◌∷◌, ◌++◌, length, nat_lt, IsTrue}
 use Rattle.std.specs.List.{list_all}
 use Rattle.rtio_types.specs.declared.event.Event.{Event}
 use Rattle.rtio_types.specs.declared.request.Request.TheVariants as ask
 use Rattle.rtio_types.specs.declared.request.Reply.{Reply}
 use Rattle.rtio_types.specs.declared.request.Reply.TheVariants as answer
-use Rattle.rtio_types.specs.Time.{cycle_of, mu_per_cycle}
+use Rattle.rtio_types.specs.Time.{cycle_of, whole_cycles}
 use Rattle.sed_lanes.specs.Verdict.{Sequence}
 use Rattle.output_merge.specs.Live.{live}
 use Rattle.output_merge.specs.Busy.{busy, hold_of}
@@ -35,7 +35,7 @@ BusyHaveReason config history =
 
 -- an event later than the limit doesn't underflow
 abbrev pub UnderflowHasReason : Config → List Entry → Event → Reply → Type 0
-UnderflowHasReason config before e reply = limit config.cost before / mu_per_cycle < cycle_of e → reply ≢ answer.Underflow
+UnderflowHasReason config before e reply = whole_cycles (limit config.cost before) < cycle_of e → reply ≢ answer.Underflow
 
 -- so it is of an entry behind others
 abbrev pub HasReason : Config → (before : List Entry) → Act → Type 0

@@ -1,10 +1,10 @@
 -- How far a core goes before anything happens to it.
-use Rattle.std.specs.Prelude.{ℕ, ◌/◌, if◌then◌else◌, max, min, Option, Some, None}
+use Rattle.std.specs.Prelude.{ℕ, if◌then◌else◌, max, min, Option, Some, None}
 use Rattle.std.specs.Option.{unwrap_or}
 use Rattle.rtio_types.specs.declared.request.Waiting.{Waiting}
 use Rattle.rtio_types.specs.declared.request.Waiting.TheVariants as waiting
 use Rattle.rtio_types.specs.Requests.{request_waiting}
-use Rattle.rtio_types.specs.Time.{counter_reaching, mu_per_cycle}
+use Rattle.rtio_types.specs.Time.{counter_reaching, whole_cycles}
 use Rattle.sed_lanes.specs.Calls.{wait_of}
 use Rattle.output_merge.specs.Live.{live, greatest_cycle}
 use Rattle.rtio_core.specs.Core.{CoreState}
@@ -26,5 +26,5 @@ abbrev pub goes_to : CoreState → ℕ
 goes_to core = min (reach (open_session core.history)) core.config.horizon
   where
     reach : Option (ℕ × ℕ) → ℕ
-    reach (Some running) = max (limit core.config.cost core.history / mu_per_cycle) (waits_to core core.waiting)
+    reach (Some running) = max (whole_cycles (limit core.config.cost core.history)) (waits_to core core.waiting)
     reach None = greatest_cycle (live (judged_history core.config core.history))

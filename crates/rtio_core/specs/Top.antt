@@ -1,7 +1,7 @@
 -- How far the counter may go.
-use Rattle.std.specs.Prelude.{ℕ, zero, suc, ◌+◌, ◌-◌, ◌/◌, Bool, true, false, List, min, max, Option, Some, None}
+use Rattle.std.specs.Prelude.{ℕ, zero, suc, ◌+◌, ◌-◌, Bool, true, false, List, min, max, Option, Some, None}
 use Rattle.rtio_types.specs.declared.request.Request.{Request}
-use Rattle.rtio_types.specs.Time.{mu_per_cycle}
+use Rattle.rtio_types.specs.Time.{whole_cycles}
 use Rattle.output_merge.specs.Live.{live, greatest_cycle}
 use Rattle.rtio_core.specs.declared.data.Config.{Config}
 use Rattle.rtio_core.specs.declared.data.Entry.{Entry}
@@ -20,8 +20,8 @@ first_decided config history request =
 
 -- how far the counter goes in an open session: to the limit, and on until the waiting request is decided
 abbrev pub top_in_session : Config → List Entry → Option Request → ℕ
-top_in_session config history None = limit config.cost history / mu_per_cycle
-top_in_session config history (Some request) = max (limit config.cost history / mu_per_cycle) (first_decided config history request)
+top_in_session config history None = whole_cycles (limit config.cost history)
+top_in_session config history (Some request) = max (whole_cycles (limit config.cost history)) (first_decided config history request)
 
 -- how far it goes with no session open: until every accepted event that wasn't cleared is put out
 abbrev pub top_between : Config → List Entry → ℕ

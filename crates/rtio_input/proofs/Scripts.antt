@@ -8,12 +8,12 @@ use Rattle.std.proofs.lemmas.List.{length-drop, take_all}
 use Rattle.std.proofs.lemmas.List.Sums.{take_while-cons}
 use Rattle.std.proofs.lemmas.Bool.Decides.{nat_tests}
 use Rattle.rtio_types.specs.declared.event.Edge.{Edge}
-use Rattle.rtio_types.specs.Time.{coarse_of, at_least_zero}
+use Rattle.rtio_types.specs.Time.{cycle_of_stamp}
 use Rattle.rtio_input.specs.Script.{are_by_cycle, are_rising, edge_cycle, edges_up_to, is_edge_before, later_edges}
 use Rattle.rtio_input.proofs.Lists.{left, right, join, all-filter, all-weaker, filter-same, filter-none, filter-whole}
 
 -- a stamp of an earlier cycle is less
-pub earlier-stamp : (x y : ℤ) → at_least_zero (coarse_of x) < at_least_zero (coarse_of y) → (int_le y x ≡ false) × (int_le x y ≡ true)
+pub earlier-stamp : (x y : ℤ) → cycle_of_stamp x < cycle_of_stamp y → (int_le y x ≡ false) × (int_le x y ≡ true)
 earlier-stamp (pos a) (pos b) lt = let less : a < b = omega (arith, lt) in (grind (arith, nat_tests, less), grind (arith, nat_tests, less))
 earlier-stamp (pos a) (negsuc b) lt = absurd (omega (arith, lt))
 earlier-stamp (negsuc a) (pos b) lt = (refl, refl)
@@ -23,7 +23,7 @@ earlier-stamp (negsuc a) (negsuc b) lt = absurd (omega (arith, lt))
 abbrev lex : ℤ → ℕ → ℤ → ℕ → Bool
 lex x i y j = int_lt x y || (int_eq x y && nat_lt i j)
 
-before-cycle : (x y : ℤ) (i j : ℕ) → lex x i y j ≡ true → at_least_zero (coarse_of x) ≤ at_least_zero (coarse_of y)
+before-cycle : (x y : ℤ) (i j : ℕ) → lex x i y j ≡ true → cycle_of_stamp x ≤ cycle_of_stamp y
 before-cycle (pos a) (pos b) i j h = let le : a ≤ b = grind (arith, nat_tests, h) in omega (arith, le)
 before-cycle (pos a) (negsuc b) i j h = absurd (cc)
 before-cycle (negsuc a) y i j h = omega arith

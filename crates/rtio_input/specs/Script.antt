@@ -3,12 +3,12 @@ use Rattle.std.specs.Prelude.{ℕ, ◌^◌, Bool, true, ◌&&◌, ◌||◌, List
 use Rattle.std.specs.Ordering.{int_eq}
 use Rattle.std.specs.List.{list_all}
 use Rattle.rtio_types.specs.declared.event.Edge.{Edge}
-use Rattle.rtio_types.specs.Time.{coarse_of, at_least_zero}
+use Rattle.rtio_types.specs.Time.{cycle_of_stamp}
 use Rattle.rtio_types.specs.Board.{is_input}
 
 -- the cycle of an edge
 abbrev pub edge_cycle : Edge → ℕ
-edge_cycle x = at_least_zero (coarse_of x.stamp)
+edge_cycle x = cycle_of_stamp x.stamp
 
 -- an edge of an input, with a stamp from 0 to below 2^62
 abbrev pub is_edge_ok : Edge → Bool

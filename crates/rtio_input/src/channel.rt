@@ -7,7 +7,7 @@ ghost use Rattle.rtio_input.specs.Calls.{after_own_edge, after_reply, sensitivit
 ghost use Rattle.rtio_input.specs.Past.{sees};
 
 use circular_buffer::HeapCircularBuffer;
-use rtio_types::{Edge, Event, MU_PER_CYCLE, Reply};
+use rtio_types::{Edge, Event, Reply, counter_reaching};
 use std::alloc::{AllocError, Global};
 use std::marker::Model;
 
@@ -48,7 +48,7 @@ fn sees(sensitivity: u32, rising: bool) -> bool
 fn has_reached(counter: u64, moment: i64) -> bool
     ensures { result ≡ int_le moment (pos (reading counter)) }
 {
-    i128::from(moment) <= i128::from(MU_PER_CYCLE) * i128::from(counter)
+    counter_reaching(moment) <= counter
 }
 
 /// The reply to a request for an edge below `up_to` where nothing is unread.

@@ -4,7 +4,7 @@ ghost use Rattle.std.specs.Prelude.{◌≡◌, ◌<◌, ◌^◌};
 ghost use Rattle.std.specs.List.{list_all};
 ghost use Rattle.rtio_input.specs.Script.{are_by_cycle, are_edges_ok, are_rising, edge_cycle, is_edge_before, is_edge_ok};
 
-use rtio_types::{Edge, coarse, is_input};
+use rtio_types::{Edge, cycle_of_stamp, is_input};
 use std::alloc::{AllocError, Global};
 use std::marker::Model;
 
@@ -24,7 +24,7 @@ pub fn edges_ok(edges: &[Edge]) -> bool
 pub fn edge_cycle(edge: &Edge) -> u64
     ensures { result ≡ edge_cycle edge.now }
 {
-    coarse(edge.stamp).max(0) as u64
+    cycle_of_stamp(edge.stamp)
 }
 
 fn edge_ok(edge: &Edge) -> bool

@@ -17,9 +17,17 @@ abbrev pub at_least_zero : ℤ → ℕ
 at_least_zero (pos n) = n
 at_least_zero (negsuc n) = 0
 
--- the coarse cycle of an event; one before cycle 0 counts as 0, since no counter is below it
+-- the coarse cycle in which a stamp is met; one before cycle 0 counts as 0, since no counter is below it
+abbrev pub cycle_of_stamp : ℤ → ℕ
+cycle_of_stamp stamp = at_least_zero (coarse_of stamp)
+
+-- that of an event
 abbrev pub cycle_of : Event → ℕ
-cycle_of event = at_least_zero (coarse_of event.stamp)
+cycle_of event = cycle_of_stamp event.stamp
+
+-- how many whole cycles a time has
+abbrev pub whole_cycles : ℕ → ℕ
+whole_cycles time = time / mu_per_cycle
 
 -- what a counter of cycles reads in machine units
 abbrev pub reading : ℕ → ℕ

@@ -16,4 +16,6 @@ pub use lists::{EdgeList, IntList, Recording};
 pub use name::Name;
 pub use outcome::{Exc, Outcome};
 pub use request::{Reply, Request, Value, Waiting, fits, well_formed};
-pub use time::{MU_PER_CYCLE, coarse, counter_reaching, cycle_of, reading};
+pub use time::{
+    MU_PER_CYCLE, coarse, counter_reaching, cycle_of, cycle_of_stamp, reading, whole_cycles,
+};

@@ -1,7 +1,7 @@
 // Machine units (mu), and coarse cycles of them.
 
 ghost use Rattle.std.specs.Prelude.{◌≡◌, ◌<◌, ◌^◌};
-ghost use Rattle.rtio_types.specs.Time.{coarse_of, counter_reaching, cycle_of, reading};
+ghost use Rattle.rtio_types.specs.Time.{coarse_of, counter_reaching, cycle_of, cycle_of_stamp, reading, whole_cycles};
 
 use crate::Event;
 
@@ -16,12 +16,27 @@ pub fn coarse(stamp: i64) -> i64
     stamp.div_euclid(MU_PER_CYCLE as i64)
 }
 
-/// The cycle of an event; one before cycle 0 counts as 0, since no counter is below it.
+/// The cycle in which a stamp is met; one before cycle 0 counts as 0, since no counter is below it.
+pub fn cycle_of_stamp(stamp: i64) -> u64
+    ensures cycle { result ≡ cycle_of_stamp stamp }
+    ensures small { result < 2 ^ 60 }
+{
+    coarse(stamp).max(0) as u64
+}
+
+/// The cycle of an event, that of its stamp.
 pub fn cycle_of(event: &Event) -> u64
     ensures cycle { result ≡ cycle_of event.now }
     ensures small { result < 2 ^ 60 }
 {
-    coarse(event.stamp).max(0) as u64
+    cycle_of_stamp(event.stamp)
+}
+
+/// How many whole cycles a time (mu) has.
+pub fn whole_cycles(time: u64) -> u64
+    ensures { result ≡ whole_cycles time }
+{
+    time / MU_PER_CYCLE
 }
 
 /// What a counter of cycles reads, in mu.

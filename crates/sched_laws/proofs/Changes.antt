@@ -28,7 +28,7 @@ use Rattle.sched_state.specs.State.{SchedState, with_run, off_stack, landed}
 use Rattle.sched_state.specs.Arrivals.{has_come, submitted, is_busy, deleted, deleted_run, doomed, ordered_to_end, terminated_run, arrived, at_clock, opening}
 use Rattle.sched_state.specs.Picks.{taken}
 use Rattle.sched_state.specs.Datasets.{Stage, stage, changes_by, kernel_changes}
-use Rattle.sched_state.specs.Reports.{Effect, steps_of, run_steps, after_stage, staged, staged_run, is_full, fails, goes_on, after_kernel, effect, after_storing, status_then, run_effect, step_effect, step_effect_of, after_clock}
+use Rattle.sched_state.specs.Reports.{Effect, steps_of, run_steps, after_stage, staged, staged_run, is_full_of_runs, fails, goes_on, after_kernel, effect, after_storing, status_then, run_effect, step_effect, step_effect_of, after_clock}
 use Rattle.sched_state.specs.Lawful.{after_act, after_entry}
 use Rattle.sched_laws.proofs.Moving.{by-settling}
 use Rattle.sched_laws.specs.Ladder.{stage_changes, or_no_changes, changes_of_step, changes_of_found, changes_of_run, changes_of_act, changes_from, DatasetsAreSetAndAppended}
@@ -124,7 +124,7 @@ by-effect session run step.Pause result state =
 by-effect session run step.CheckTermination result state =
     either-end state.datasets run.terminate (record { word = word.Terminated; status = status.Terminated; state = state }) (goes_on state) refl refl
 by-effect session run (step.Submit asked) result state =
-    either-end state.datasets (is_full state) (fails word.Failed state) (goes_on (submitted asked state)) refl refl
+    either-end state.datasets (is_full_of_runs state) (fails word.Failed state) (goes_on (submitted asked state)) refl refl
 by-effect session run (step.Set name value broadcast persist archive) result state =
     by-storing state (changes_by (step.Set name value broadcast persist archive) state.datasets)
 by-effect session run (step.Append name item) result state = by-storing state (changes_by (step.Append name item) state.datasets)

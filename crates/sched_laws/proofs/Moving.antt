@@ -23,7 +23,7 @@ use Rattle.sched_state.specs.State.{SchedState, with_run, off_stack}
 use Rattle.sched_state.specs.Arrivals.{has_come, submitted, is_busy, deleted, deleted_run, doomed, ordered_to_end, terminated_run, arrived, at_clock}
 use Rattle.dataset_db.specs.Datasets.{Change, Dataset, datasets_after}
 use Rattle.sched_state.specs.Datasets.{changes_by, kernel_changes}
-use Rattle.sched_state.specs.Reports.{Effect, run_steps, is_full, fails, goes_on, after_kernel, effect, after_storing, run_effect, settle}
+use Rattle.sched_state.specs.Reports.{Effect, run_steps, is_full_of_runs, fails, goes_on, after_kernel, effect, after_storing, run_effect, settle}
 
 -- a step may submit a run, and change datasets
 pub record IsKept (P : SchedState → Type 0) : Type 0 where
@@ -108,7 +108,7 @@ module _ (P : SchedState → Type 0) (kept : IsKept P) where
   by-effect session run step.CheckTermination result state was =
       either-end run.terminate (record { word = word.Terminated; status = status.Terminated; state = state }) (goes_on state) was was
   by-effect session run (step.Submit asked) result state was =
-      either-end (is_full state) (fails word.Failed state) (goes_on (submitted asked state)) was (kept.push asked state was)
+      either-end (is_full_of_runs state) (fails word.Failed state) (goes_on (submitted asked state)) was (kept.push asked state was)
   by-effect session run (step.Set name value broadcast persist archive) result state was =
       by-storing state (changes_by (step.Set name value broadcast persist archive) state.datasets) was
   by-effect session run (step.Append name item) result state was = by-storing state (changes_by (step.Append name item) state.datasets) was

@@ -29,7 +29,7 @@ use Rattle.sched_state.specs.declared.entry.SchedEntry.{SchedEntry}
 use Rattle.sched_state.specs.declared.entry.StepWord.TheVariants as word
 use Rattle.sched_state.specs.State.{SchedState, landed, off_stack, passes, with_run}
 use Rattle.sched_state.specs.Datasets.{changes_by, stage}
-use Rattle.sched_state.specs.Reports.{Effect, after_clock, after_kernel, after_stage, after_storing, effect, fails, goes_on, is_full, moved_on, run_effect, run_steps, staged_run, status_then, step_effect, step_effect_of, steps_of}
+use Rattle.sched_state.specs.Reports.{Effect, after_clock, after_kernel, after_stage, after_storing, effect, fails, goes_on, is_full_of_runs, moved_on, run_effect, run_steps, staged_run, status_then, step_effect, step_effect_of, steps_of}
 use Rattle.sched_state.specs.Lawful.{after_act, after_entry, state_after}
 use Rattle.sched_state.proofs.Openings.{session-few}
 use Rattle.sched_laws.proofs.Moving.{by-settling}
@@ -156,7 +156,7 @@ effect-roomy session run step.Pause result state was =
 effect-roomy session run step.CheckTermination result state was =
     roomy-at run.terminate (record { word = word.Terminated; status = status.Terminated; state = state }) (goes_on state) (λ e. was) (λ e. was)
 effect-roomy session run (step.Submit asked) result state was =
-    roomy-at (is_full state) (fails word.Failed state) (goes_on (submitted asked state)) (λ e. was)
+    roomy-at (is_full_of_runs state) (fails word.Failed state) (goes_on (submitted asked state)) (λ e. was)
     (λ e.
     let one : length (state.runs ++ new_run (length state.runs) asked ∷ []) ≡ length state.runs + 1 =
     length-append state.runs (new_run (length state.runs) asked ∷ []) in

@@ -24,7 +24,7 @@ use Rattle.sched_state.specs.declared.entry.StepWord.TheVariants as word
 use Rattle.sched_state.specs.State.{SchedState, landed, off_stack, passes, top_of, with_run}
 use Rattle.sched_state.specs.Arrivals.{at_clock, new_run, submitted}
 use Rattle.sched_state.specs.Datasets.{changes_by}
-use Rattle.sched_state.specs.Reports.{Effect, after_clock, after_kernel, after_storing, effect, fails, goes_on, is_full, moved_on, run_effect, run_steps, settle, status_then, step_effect, step_effect_of}
+use Rattle.sched_state.specs.Reports.{Effect, after_clock, after_kernel, after_storing, effect, fails, goes_on, is_full_of_runs, moved_on, run_effect, run_steps, settle, status_then, step_effect, step_effect_of}
 use Rattle.sched_state.specs.Lawful.{IsFlying}
 use Rattle.sched_state.proofs.Openings.{first}
 use Rattle.sched_state.proofs.Stepped.{listed}
@@ -138,7 +138,7 @@ by-effect session rid place run step.CheckTermination result state ok may was =
     end-at session rid place run run.terminate (record { word = word.Terminated; status = status.Terminated; state = state }) (goes_on state) (λ e. (was, tt))
     (λ e. (was, tt))
 by-effect session rid place run (step.Submit asked) result state ok may was =
-    end-at session rid place run (is_full state) (fails word.Failed state) (goes_on (submitted asked state)) (λ e. (was, tt))
+    end-at session rid place run (is_full_of_runs state) (fails word.Failed state) (goes_on (submitted asked state)) (λ e. (was, tt))
     (λ e. (
       (
         by-submission session (one_ahead rid) asked state ok may was.0,

@@ -1,4 +1,4 @@
-//! What holds of every lawful history.
+// What holds of every lawful history.
 
 ghost use Rattle.sched_laws.specs.Ladder.{DatasetsAreSetAndAppended, NeverStuck, OneStepEach, PausedRunsWait, PreemptsByPriority, PrioritiesRise, RunsAreFew, RunsStay};
 ghost use Rattle.sched_laws.specs.Workers.{FlightsFollow, FlyingJobsStand, JobsFlyUntilReported, OneChairARun, OneFlightARun, OverStays, TakersReport};

@@ -29,7 +29,7 @@ use Rattle.sched_state.specs.Arrivals.{has_come, new_run, submitted, is_busy, de
 use Rattle.sched_state.specs.Picks.{taken}
 use Rattle.dataset_db.specs.Datasets.{Change}
 use Rattle.sched_state.specs.Datasets.{Stage, stage, changes_by}
-use Rattle.sched_state.specs.Reports.{Effect, after_stage, moved_on, steps_of, run_steps, staged, staged_run, is_full, fails, goes_on, after_kernel, effect, after_storing, settle, status_then, run_effect, step_effect, step_effect_of, after_clock}
+use Rattle.sched_state.specs.Reports.{Effect, after_stage, moved_on, steps_of, run_steps, staged, staged_run, is_full_of_runs, fails, goes_on, after_kernel, effect, after_storing, settle, status_then, run_effect, step_effect, step_effect_of, after_clock}
 use Rattle.sched_state.specs.Lawful.{after_act, after_entry, state_after}
 use Rattle.sched_state.specs.Boards.{AreNumbered}
 use Rattle.sched_state.proofs.Numbered.{changed-numbered, pushed-numbered}
@@ -122,7 +122,7 @@ by-effect session run step.Pause result state was =
     let lent : Effect = record { word = word.Paused; status = status.Paused; state = state } in
     either-end run.terminate ends (cond lends lent (goes_on state)) was (either-end lends lent (goes_on state) was was)
 by-effect session run step.CheckTermination result state was = either-end run.terminate (record { word = word.Terminated; status = status.Terminated; state = state }) (goes_on state) was was
-by-effect session run (step.Submit asked) result state was = either-end (is_full state) (fails word.Failed state) (goes_on (submitted asked state)) was (by-submission asked state was)
+by-effect session run (step.Submit asked) result state was = either-end (is_full_of_runs state) (fails word.Failed state) (goes_on (submitted asked state)) was (by-submission asked state was)
 by-effect session run (step.Set name value broadcast persist archive) result state was = by-storing state (changes_by (step.Set name value broadcast persist archive) state.datasets) was
 by-effect session run (step.Append name item) result state was = by-storing state (changes_by (step.Append name item) state.datasets) was
 by-effect session run (step.Sum name target) result state was = by-storing state (changes_by (step.Sum name target) state.datasets) was

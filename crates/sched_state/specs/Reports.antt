@@ -67,8 +67,8 @@ abbrev pub submissions_left : List Arrival → ℕ
 submissions_left arrivals = count_by submits arrivals
 
 -- there is no room for one more run
-abbrev pub is_full : SchedState → Bool
-is_full state = nat_le 64 (length state.runs + submissions_left state.arrivals)
+abbrev pub is_full_of_runs : SchedState → Bool
+is_full_of_runs state = nat_le 64 (length state.runs + submissions_left state.arrivals)
 
 -- what a step comes to: its word, the run's status then, and what else it changes
 pub record Effect : Type 0 where
@@ -113,7 +113,7 @@ effect session run (step.Kernel name args) None state = goes_on state
 effect session run step.Pause result state = paused session run state
 effect session run step.CheckTermination result state = checked run state
 effect session run (step.Submit asked) result state =
-    if is_full state then fails word.Failed state else goes_on (submitted asked state)
+    if is_full_of_runs state then fails word.Failed state else goes_on (submitted asked state)
 effect session run other result state = after_storing state (changes_by other state.datasets)
 
 -- a run that is running with no step left is done with them

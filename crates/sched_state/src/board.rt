@@ -38,7 +38,7 @@ fn run_of_job(job: JobName) -> u64
     }
 }
 
-// Whether a step of the run is in flight.
+/// Whether a step of the run is in flight.
 pub fn is_in_flight(flying: &[Flight], rid: u64) -> bool
     ensures { result ≡ list_any (λ (flight : Flight). is_step_of rid flight.job) flying.now }
 {

@@ -14,7 +14,7 @@ ghost use Rattle.sched_state.specs.declared.board.Board.{Board};
 ghost use Rattle.sched_state.specs.declared.entry.KernelResult.{KernelResult};
 ghost use Rattle.sched_state.specs.Arrivals.{at_clock};
 ghost use Rattle.sched_state.specs.Datasets.{changes_by};
-ghost use Rattle.sched_state.specs.Reports.{after_clock, after_storing, effect, is_full, moved_on, paused, run_effect, run_steps, settle, settled, step_effect, submissions_left};
+ghost use Rattle.sched_state.specs.Reports.{after_clock, after_storing, effect, is_full_of_runs, moved_on, paused, run_effect, run_steps, settle, settled, step_effect, submissions_left};
 ghost use Rattle.sched_state.specs.State.{with_run};
 ghost use Rattle.sched_state.specs.Boards.{AreNumbered, Becomes, state_of, state_with};
 ghost use Rattle.sched_state.specs.Stepped.{CanMoveOn, effect_of};
@@ -30,7 +30,7 @@ use exp_model::{Arrival, ArrivalAct, HostStep, Session, Submission};
 use exp_runs::{Run, Status};
 use std::alloc::{AllocError, Global};
 
-/// How many runs there may be, with the submissions that are still to arrive.
+// How many runs there may be, with the submissions that are still to arrive.
 const MOST_RUNS: u64 = 64;
 
 // The steps of the run's experiment.
@@ -44,7 +44,7 @@ fn run_steps<'a>(session: &'a Session, run: &Run) -> &'a [HostStep]
 }
 
 // The step of a run at a position.
-fn step_at<'a>(session: &'a Session, run: &Run, pos: u32) -> Option<&'a HostStep>
+fn found_step<'a>(session: &'a Session, run: &Run, pos: u32) -> Option<&'a HostStep>
     ensures { option_copied result ≡ slice_get (run_steps session.now run.now) pos }
 {
     run_steps(session, run).get(pos as usize)
@@ -138,9 +138,9 @@ impl Board {
     }
 
     // Whether there is no room for one more run.
-    fn is_full(&self, arrivals: &[Arrival]) -> bool
+    fn is_full_of_runs(&self, arrivals: &[Arrival]) -> bool
         requires { self.now.taken ≤ length arrivals.now }
-        ensures { (datasets : List Dataset) → result ≡ is_full (state_of arrivals.now datasets self.now) }
+        ensures { (datasets : List Dataset) → result ≡ is_full_of_runs (state_of arrivals.now datasets self.now) }
     {
         let left = submissions_left(&arrivals[self.taken..]) as u64;
         self.runs.len().saturating_add(left) >= MOST_RUNS
@@ -162,7 +162,7 @@ impl Board {
         ensures taken { OnOk result (self.new.taken ≡ self.old.taken) }
         ensures pipelines { OnOk result (self.new.runs.pipelines ≡ self.old.runs.pipelines) }
     {
-        if self.is_full(arrivals) {
+        if self.is_full_of_runs(arrivals) {
             return Ok(fails(StepWord::Failed));
         }
         self.submit(alloc, asked)?;
@@ -222,7 +222,7 @@ impl Board {
         ensures taken { OnOk result (self.new.taken ≡ self.old.taken) }
         ensures pipelines { OnOk result (self.new.runs.pipelines ≡ self.old.runs.pipelines) }
     {
-        let Some(step) = step_at(session, run, pos) else {
+        let Some(step) = found_step(session, run, pos) else {
             return Ok(goes_on());
         };
         if run.doomed {

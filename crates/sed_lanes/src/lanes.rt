@@ -73,7 +73,7 @@ impl Lanes {
     }
 
     // Whether a lane holds as many events as it may.
-    fn is_full(&self, lane: u32) -> bool
+    fn is_full_lane(&self, lane: u32) -> bool
         requires { lane < length self.now.lanes }
         ensures { result ≡ is_full_lane self.now lane }
     {
@@ -162,10 +162,10 @@ impl Lanes {
         let current = self.current;
         let next = self.next();
         let late = cycle_of(event) <= counter;
-        if late || (!self.is_full(current) && self.may_enter(current, event)) {
+        if late || (!self.is_full_lane(current) && self.may_enter(current, event)) {
             return false;
         }
-        self.may_enter(next, event) && self.is_full(next)
+        self.may_enter(next, event) && self.is_full_lane(next)
     }
 
     /// Until when an event has to wait at this counter of cycles: the least cycle that frees a lane which it may enter.
@@ -194,7 +194,7 @@ impl Lanes {
             → LanesStandFor self.new (steps ++ Submit counter event.now ∷ []) counter }
     {
         let current = self.current;
-        if !self.is_full(current) && self.may_enter(current, event) {
+        if !self.is_full_lane(current) && self.may_enter(current, event) {
             self.accept(current, number, *event);
             return Place::Lane(current);
         }
@@ -204,7 +204,7 @@ impl Lanes {
                 last: self.last_of(next),
             };
         }
-        if self.is_full(next) {
+        if self.is_full_lane(next) {
             return Place::Wait {
                 until: self.until(event),
             };

@@ -28,7 +28,7 @@ use Rattle.sim_program.specs.declared.kernel.Built.{Built}
 use Rattle.sim_program.specs.declared.kernel.Built.TheVariants as B
 use Rattle.sim_program.specs.declared.kernel.Kernel.{Kernel}
 use Rattle.sim_program.specs.declared.kernel.Kernel.TheVariants as K
-use Rattle.sim_program.specs.Texts.{IsKernel, IsKernelText, IsProgramRefused, IsTextOf, IsTextRefused, code_line, ill, large, lex_line, max_nodes, no_kernel, no_tokens, no_tree, syntax_line}
+use Rattle.sim_program.specs.Texts.{IsKernel, IsKernelText, IsProgramRefused, IsTextOf, IsTextRefused, code_line, ill, large, lex_line, most_nodes, no_kernel, no_tokens, no_tree, syntax_line}
 use Rattle.sim_program.specs.Readings.{IsBuiltAs, IsBuiltOf, IsKernelOf, IsNoKernelText, IsReadAs, IsTypedAs}
 
 -- a program that is typed has no fault
@@ -131,14 +131,14 @@ builts-of text program (Err e) read is = tt
 -- ---- programs of a text
 
 -- one with too many nodes is refused
-pub too-large : (text told : Bytes) (program seen : ProgramTree) (count : ℕ) → IsReadAs text program → IsTyped program → seen ≡ program → (max_nodes < program_nodes seen) × (count ≡ shown (program_nodes seen)) → told ≡ code_line count
+pub too-large : (text told : Bytes) (program seen : ProgramTree) (count : ℕ) → IsReadAs text program → IsTyped program → seen ≡ program → (most_nodes < program_nodes seen) × (count ≡ shown (program_nodes seen)) → told ≡ code_line count
     → IsTextRefused text told × (((other : ProgramTree) × IsKernelText text other) → ⊥)
 too-large text told program seen count read typed is nodes line =
-    let big : max_nodes < program_nodes program = subst (λ (p : ProgramTree). max_nodes < program_nodes p) is nodes.0 in
+    let big : most_nodes < program_nodes program = subst (λ (p : ProgramTree). most_nodes < program_nodes p) is nodes.0 in
     let shows : told ≡ code_line (shown (program_nodes program)) = line ∙ ap code_line (nodes.1 ∙ ap (λ (p : ProgramTree). shown (program_nodes p)) is) in
     let refused = refused-program text told program read (large typed big shows) in
     (refused.0, λ taken. refused.1 taken.0 taken.1)
 
 -- another is an accepted kernel
-pub small-enough : (program seen : ProgramTree) → IsTyped program → seen ≡ program → program_nodes seen ≤ max_nodes → IsKernel program
-small-enough program seen typed is few = record { typed = typed; small = subst (λ (p : ProgramTree). program_nodes p ≤ max_nodes) is few }
+pub small-enough : (program seen : ProgramTree) → IsTyped program → seen ≡ program → program_nodes seen ≤ most_nodes → IsKernel program
+small-enough program seen typed is few = record { typed = typed; small = subst (λ (p : ProgramTree). program_nodes p ≤ most_nodes) is few }

@@ -21,13 +21,13 @@ pub record IsTextOf (text : Bytes) (program : ProgramTree) : Type 0 where
   pub parsed : HasTree (lexemes_of text tokens) program
 
 -- the most nodes of a program
-abbrev pub max_nodes : ℕ
-max_nodes = 16384
+abbrev pub most_nodes : ℕ
+most_nodes = 16384
 
 -- a program is typed and has no more nodes than it may
 pub record IsKernel (program : ProgramTree) : Type 0 where
   pub typed : IsTyped program
-  pub small : program_nodes program ≤ max_nodes
+  pub small : program_nodes program ≤ most_nodes
 
 -- the bytes are the text of an accepted kernel
 pub record IsKernelText (text : Bytes) (program : ProgramTree) : Type 0 where
@@ -77,7 +77,7 @@ code_line count = codes "code " ++ decimal count ++ codes "\n"
 -- why a program is no accepted kernel, and the line that says so
 pub data IsProgramRefused (program : ProgramTree) (told : Bytes) : Type 0 where
   ill : (line : ℕ) (kind : TypeKind) → program_verdict program ≡ V.fault line kind → told ≡ type_line line kind → IsProgramRefused program told
-  large : IsTyped program → max_nodes < program_nodes program → told ≡ code_line (shown (program_nodes program)) → IsProgramRefused program told
+  large : IsTyped program → most_nodes < program_nodes program → told ≡ code_line (shown (program_nodes program)) → IsProgramRefused program told
 
 -- why a text is no accepted kernel's, and the line that says so
 pub data IsTextRefused (text : Bytes) (told : Bytes) : Type 0 where

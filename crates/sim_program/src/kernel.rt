@@ -7,7 +7,7 @@ ghost use Rattle.kern_syntax.specs.Spellable.{IsSpellableProgram};
 ghost use Rattle.kern_syntax.specs.TreeOf.{tree_of};
 ghost use Rattle.kern_types.specs.Programs.{IsTyped};
 ghost use Rattle.sim_program.specs.Readings.{IsBuiltAs, IsBuiltOf, IsKernelOf, IsTypedAs};
-ghost use Rattle.sim_program.specs.Texts.{max_nodes};
+ghost use Rattle.sim_program.specs.Texts.{most_nodes};
 
 use crate::refusal::{code_refusal, lex_refusal, syntax_refusal, type_refusal};
 use core_code::{CodeEnd, Compiled, compile};
@@ -36,7 +36,7 @@ pub enum Built {
 }
 
 // The greatest number of nodes of a program.
-const MAX_NODES: u64 = 16384;
+const MOST_NODES: u64 = 16384;
 
 /// Reads a text as a typed program, or says why it is none: for its tokens, its tree or its types, in this order.
 pub fn kernel_of(alloc: Global, text: &[u8]) -> Result<Kernel, AllocError>
@@ -77,11 +77,15 @@ fn check_program(alloc: Global, program: Program) -> Result<Kernel, AllocError>
 
 /// The number of nodes of a program, where it has more than it may.
 pub fn over_limit(program: &Program) -> Option<u64>
-    ensures small { IfNone result (program_nodes (tree_of program.now) ≤ max_nodes) }
-    ensures large { IfSome result (λ count. (max_nodes < program_nodes (tree_of program.now)) × (count ≡ shown (program_nodes (tree_of program.now)))) }
+    ensures small { IfNone result (program_nodes (tree_of program.now) ≤ most_nodes) }
+    ensures large { IfSome result (λ count. (most_nodes < program_nodes (tree_of program.now)) × (count ≡ shown (program_nodes (tree_of program.now)))) }
 {
     let count = nodes(program);
-    if count > MAX_NODES { Some(count) } else { None }
+    if count > MOST_NODES {
+        Some(count)
+    } else {
+        None
+    }
 }
 
 /// Reads a text as a kernel and compiles it, or says why it is none: for its tokens, its tree, its types or its number of

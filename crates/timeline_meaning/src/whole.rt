@@ -15,7 +15,7 @@ use std::alloc::{AllocError, Global};
 use std::marker::Model;
 use timeline_sem::MeantOutcome;
 
-/// At most 64 functions are active, the first one being one of them.
+// At most 64 functions are active, the first one being one of them.
 const CALL_ROOM: u32 = 63;
 
 /// What a function of a kernel means under given replies.

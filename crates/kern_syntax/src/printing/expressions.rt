@@ -1,4 +1,4 @@
-//! The text of expressions.
+// The text of expressions.
 
 ghost use Rattle.std.specs.Prelude.{◌≡◌, ◌++◌, OnOk, decimal};
 ghost use Rattle.kern_syntax.specs.Print.{expression_text, joined, argument_texts, quoted, sign_of_binary, sign_of_comparison, sign_of_unary};
@@ -79,7 +79,7 @@ pub fn put_element(text: &mut Vec<u8>, array: &Identifier, index: &Expr) -> Resu
     put(text, b"]")
 }
 
-/// Appends the arguments of a call in their parentheses.
+// Appends the arguments of a call in their parentheses.
 #[cycle(expressions)]
 fn put_arguments(text: &mut Vec<u8>, arguments: &[Argument]) -> Result<(), AllocError>
     ensures { OnOk result (text.new.items

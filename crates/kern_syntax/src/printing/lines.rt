@@ -1,4 +1,4 @@
-//! The text of one line of a statement: of the whole line where it has no block, else of its header up to the colon.
+// The text of one line of a statement: of the whole line where it has no block, else of its header up to the colon.
 
 ghost use Rattle.std.specs.Prelude.{◌≡◌, ◌++◌, OnOk, codes};
 ghost use Rattle.kern_syntax.specs.Print.{expression_text, target_text, sign_of_augment};

@@ -1,4 +1,4 @@
-//! The text of statements and blocks.
+// The text of statements and blocks.
 
 ghost use Rattle.std.specs.Prelude.{◌≡◌, ◌++◌, suc, OnOk, codes};
 ghost use Rattle.kern_syntax.specs.Print.{statement_text, block_text, otherwise_text, handlers_text, indent};
@@ -98,7 +98,7 @@ fn put_statement(text: &mut Vec<u8>, level: usize, statement: &StmtKind) -> Resu
 
 ghost use Rattle.std.specs.Prelude.{None, option_map};
 
-/// Appends the `elif` branches of an `if`.
+// Appends the `elif` branches of an `if`.
 #[cycle(statements)]
 fn put_branches(text: &mut Vec<u8>, level: usize, branches: &[Elif]) -> Result<(), AllocError>
     ensures { OnOk result (text.new.items ≡ text.old.items ++ otherwise_text (branches_of branches.now None) level) }
@@ -152,7 +152,7 @@ fn put_handler(text: &mut Vec<u8>, level: usize, handler: &Handler) -> Result<()
     put_body(text, level, &handler.body)
 }
 
-/// Appends the spaces before a line.
+// Appends the spaces before a line.
 fn put_indent(text: &mut Vec<u8>, level: usize) -> Result<(), AllocError>
     ensures { OnOk result (text.new.items ≡ text.old.items ++ indent level) }
 {

@@ -5,7 +5,7 @@ ghost use Rattle.rtio_core.specs.Core.{core_top};
 ghost use Rattle.rtio_core.specs.Leaps.{goes_to, waits_to};
 
 use super::Core;
-use rtio_types::{MU_PER_CYCLE, Waiting, counter_reaching};
+use rtio_types::{Waiting, counter_reaching, whole_cycles};
 
 // What was passed over.
 #[derive(Clone, Copy)]
@@ -69,7 +69,7 @@ impl Core {
     {
         let reach = match self.session {
             None => self.outputs.greatest,
-            Some(_) => (self.limit / MU_PER_CYCLE).max(self.waits_to()),
+            Some(_) => whole_cycles(self.limit).max(self.waits_to()),
         };
         reach.min(self.config.horizon)
     }

@@ -9,7 +9,7 @@ ghost use Rattle.rtio_core.specs.Calls.{AnswersTick, has_to_wait, told_limit};
 use super::Core;
 use crate::Tick;
 use crate::replies::reads;
-use rtio_types::{MU_PER_CYCLE, Waiting, reading};
+use rtio_types::{Waiting, reading, whole_cycles};
 
 impl Core {
     /// Raises the counter by one cycle, if it may go on: in an open session while it is within the limit, or a request
@@ -29,7 +29,7 @@ impl Core {
         Tick::Went
     }
 
-    // Raises the counter by one cycle, which it may.
+    /// Raises the counter by one cycle, which it may.
     pub(super) fn go(&mut self)
         requires { self.old.counter < core_top self.old }
         ensures { self.new ≡ record self.old { counter = self.old.counter + 1 } }
@@ -55,7 +55,7 @@ impl Core {
     {
         match self.session {
             None => self.count < self.outputs.greatest,
-            Some(_) => self.count < self.limit / MU_PER_CYCLE || self.waits(),
+            Some(_) => self.count < whole_cycles(self.limit) || self.waits(),
         }
     }
 

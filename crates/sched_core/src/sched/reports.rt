@@ -84,7 +84,7 @@ fn prepare_steps<'a>(session: &'a Session, run: &Run) -> &'a [HostStep]
     }
 }
 
-// The number of the source of the run's experiment.
+/// The number of the source of the run's experiment.
 pub(super) fn source_of(session: &Session, run: &Run) -> u32
     ensures { run.now.experiment < length session.now.experiments → source_of_run session.now run.now ≡ Some result }
 {
@@ -94,7 +94,7 @@ pub(super) fn source_of(session: &Session, run: &Run) -> u32
     }
 }
 
-// Puts a kit into the place of its run.
+/// Puts a kit into the place of its run.
 pub(super) fn put_in<P: Drop>(kits: &mut Vec<Option<P>>, rid: u64, kit: P)
     requires { rid < length kits.old.items }
     ensures { kits.new.items ≡ slice_set kits.old.items rid (Some kit) }
@@ -224,7 +224,7 @@ impl<P: Payload> Sched<P> {
         }
     }
 
-    // The run whose job is reported.
+    /// The run whose job is reported.
     pub(super) fn reported(&self, rid: u64, job: JobName) -> Result<Run, Why>
         requires { rid_of job ≡ rid }
         ensures run { IfOk result (λ run. run_of (sched_state self.now).runs rid ≡ Some run) }

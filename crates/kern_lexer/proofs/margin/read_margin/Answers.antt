@@ -3,7 +3,7 @@ use Rattle.std.proofs.lemmas.Bool.{eqb-true, eqb-false}
 use Rattle.std.proofs.lemmas.List.{nil_from_length, length-reverse}
 use Rattle.std.proofs.lemmas.Result.{err_from_is_err_and}
 use Rattle.kern_lexer.specs.Fronts.{begins_token}
-use Rattle.kern_lexer.specs.Margins.{width_of, margin, unmarked}
+use Rattle.kern_lexer.specs.Margins.{leading_spaces, margin, unmarked}
 use Rattle.kern_lexer.specs.Steps.{margin_after}
 use Rattle.kern_lexer.specs.Tokens.{margin_of, margin_or_fault}
 use Rattle.kern_lexer.proofs.MarginLemmas.{margin-asked, margin-unasked, margin-within, after-unmarked}
@@ -20,11 +20,11 @@ returns-in_err-mark_margin-clause-fault c =
     let empty : c.args.layout.now.brackets.len ≡ 0 = eqb-true _ 0 (sym c.is_empty.ensures ∙ c.if-is_empty.true) in
     let outside : reverse brackets ≡ [] =
     nil_from_length (reverse brackets) (length-reverse brackets ∙ sym c.args.layout.now.brackets.ok.0 ∙ empty) in
-    let begins : begins_token (drop (width_of code) code) ≡ true = ap begins_token (sym c.without_spaces.ensures)
+    let begins : begins_token (drop (leading_spaces code) code) ≡ true = ap begins_token (sym c.without_spaces.ensures)
     ∙ sym c.begins_token.ensures ∙ c.if-begins_token.true in
     rw (p.1, p.2)
-    (end-same _ (ap (λ w. margin_after c.args.tokens.now.items c.args.line (c.args.at + w) (margin_or_fault (c.args.at + w) (margin (reverse widths) w))) c.width_of-width.ensures
-    ∙ ap (margin_after c.args.tokens.now.items c.args.line (c.args.at + width_of code)) (sym (margin-asked (reverse brackets) (reverse widths) c.args.at code outside begins)))
+    (end-same _ (ap (λ w. margin_after c.args.tokens.now.items c.args.line (c.args.at + w) (margin_or_fault (c.args.at + w) (margin (reverse widths) w))) c.leading_spaces-width.ensures
+    ∙ ap (margin_after c.args.tokens.now.items c.args.line (c.args.at + leading_spaces code)) (sym (margin-asked (reverse brackets) (reverse widths) c.args.at code outside begins)))
     c.in_err-mark_margin.ensures.fault)
 
 pub returns-in_ok-mark_margin-clause-ok : goal.returns-in_ok-mark_margin-clause-ok
@@ -35,10 +35,10 @@ returns-in_ok-mark_margin-clause-ok c =
     let empty : c.args.layout.now.brackets.len ≡ 0 = eqb-true _ 0 (sym c.is_empty.ensures ∙ c.if-is_empty.true) in
     let outside : reverse brackets ≡ [] =
     nil_from_length (reverse brackets) (length-reverse brackets ∙ sym c.args.layout.now.brackets.ok.0 ∙ empty) in
-    let begins : begins_token (drop (width_of code) code) ≡ true = ap begins_token (sym c.without_spaces.ensures)
+    let begins : begins_token (drop (leading_spaces code) code) ≡ true = ap begins_token (sym c.without_spaces.ensures)
     ∙ sym c.begins_token.ensures ∙ c.if-begins_token.true in
-    ap (margin_after c.args.tokens.now.items c.args.line (c.args.at + width_of code)) (margin-asked (reverse brackets) (reverse widths) c.args.at code outside begins)
-    ∙ ap (λ w. margin_after c.args.tokens.now.items c.args.line (c.args.at + w) (margin_or_fault (c.args.at + w) (margin (reverse widths) w))) (sym c.width_of-width.ensures)
+    ap (margin_after c.args.tokens.now.items c.args.line (c.args.at + leading_spaces code)) (margin-asked (reverse brackets) (reverse widths) c.args.at code outside begins)
+    ∙ ap (λ w. margin_after c.args.tokens.now.items c.args.line (c.args.at + w) (margin_or_fault (c.args.at + w) (margin (reverse widths) w))) (sym c.leading_spaces-width.ensures)
     ∙ c.in_ok-mark_margin.ensures.ok
 
 pub returns-else-is_empty-clause-ok : goal.returns-else-is_empty-clause-ok
@@ -53,4 +53,4 @@ returns-else-is_empty-clause-ok c =
       | else-is_empty-via-else-is_empty w ↦ margin-within (reverse brackets) (reverse widths) c.args.at code
           (let some : c.args.layout.now.brackets.len ≡ 0 → ⊥ = eqb-false _ 0 (sym c.is_empty.ensures ∙ w.if-is_empty.false) in omega (arith, some, length-reverse brackets, c.args.layout.now.brackets.ok.0))
     ] in
-    after-unmarked c.args.tokens.now.items c.args.line (c.args.at + width_of code) (reverse widths) _ none
+    after-unmarked c.args.tokens.now.items c.args.line (c.args.at + leading_spaces code) (reverse widths) _ none

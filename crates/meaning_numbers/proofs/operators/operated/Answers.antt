@@ -14,7 +14,7 @@ returns-in-Some c =
     let wrapped : FitsSigned w64 c.wrapped.result = search rules in
     let is : Some v ≡ option_map (int_wrap w64) (exact_result c.args.operator (bits_of t) c.args.a c.args.b) =
     c.in-Some.ensures
-    ∙ (λ i. option_map (int_wrap w64) (exact_result c.args.operator (c.bits_of.ensures.bits i) (to_z-of_z w64 c.args.a c.ranges.a i) (to_z-of_z w64 c.args.b c.ranges.b i))) in
+    ∙ (λ i. option_map (int_wrap w64) (exact_result c.args.operator (c.bits_of.ensures i) (to_z-of_z w64 c.args.a c.ranges.a i) (to_z-of_z w64 c.args.b c.ranges.b i))) in
     ap Some
     (to_z-of_z w64 c.wrapped.result wrapped
     ∙ c.wrapped.ensures

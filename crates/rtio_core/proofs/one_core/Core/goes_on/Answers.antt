@@ -1,5 +1,8 @@
+use Rattle.std.proofs.Common.{subst, ◌≤◌}
 use Rattle.rtio_core.proofs.Tops.{waits-rise}
 use Rattle.rtio_core.proofs.one_core.Core.goes_on.Goals as goal
 
-pub returns-else-self : goal.returns-else-self
-returns-else-self c = waits-rise c.self.inside c.args.self.now _ c.waits.result c.self.view_is c.self.invariant c.in-Some.is c.if-self.false c.requires c.waits.ensures
+pub returns-else-self-whole_cycles : goal.returns-else-self-whole_cycles
+returns-else-self-whole_cycles c =
+    let far = subst (λ n. n ≤ c.self.inside.count) c.whole_cycles.ensures c.if-self-whole_cycles.false in
+    waits-rise c.self.inside c.args.self.now _ c.waits.result c.self.view_is c.self.invariant c.in-Some.is far c.requires c.waits.ensures

@@ -15,7 +15,7 @@ returns-in_default-clause-effect c =
     let session = c.args.session.now in
     let run = c.args.run.now in
     let state = state_of session.arrivals c.args.datasets.now c.args.self.now in
-    let none : slice_get (run_steps session run) c.args.pos ≡ None = sym c.step_at.ensures ∙ ap option_copied c.in_default.is in
+    let none : slice_get (run_steps session run) c.args.pos ≡ None = sym c.found_step.ensures ∙ ap option_copied c.in_default.is in
     c.goes_on.ensures state ∙ sym (ap (λ (f : Option HostStep). run_effect session run f (option_copied c.args.ran) state) none)
 
 pub returns-then-run-clause-effect : goal.returns-then-run-clause-effect
@@ -23,14 +23,14 @@ returns-then-run-clause-effect c =
     let session = c.args.session.now in
     let run = c.args.run.now in
     let state = state_of session.arrivals c.args.datasets.now c.args.self.now in
-    let found : slice_get (run_steps session run) c.args.pos ≡ Some c.in-Some.step.now = sym c.step_at.ensures ∙ ap option_copied c.in-Some.is in
+    let found : slice_get (run_steps session run) c.args.pos ≡ Some c.in-Some.step.now = sym c.found_step.ensures ∙ ap option_copied c.in-Some.is in
     sym (of-doomed session run (slice_get (run_steps session run) c.args.pos) c.in-Some.step.now (option_copied c.args.ran) state found c.if-run.true)
 
 pub do_step-requires-clause-fits : goal.do_step-requires-clause-fits
 do_step-requires-clause-fits c =
     let session = c.args.session.now in
     let run = c.args.run.now in
-    let found : slice_get (run_steps session run) c.args.pos ≡ Some c.in-Some.step.now = sym c.step_at.ensures ∙ ap option_copied c.in-Some.is in
+    let found : slice_get (run_steps session run) c.args.pos ≡ Some c.in-Some.step.now = sym c.found_step.ensures ∙ ap option_copied c.in-Some.is in
     step-fits session run c.args.pos c.in-Some.step.now c.requires.session found
 
 pub do_step-requires-clause-new : goal.do_step-requires-clause-new
@@ -43,7 +43,7 @@ returns-clause-effect c =
     let ran = option_copied c.args.ran in
     let old = state_of session.arrivals c.args.datasets.now c.args.self.now in
     let new = state_of session.arrivals c.do_step.new.datasets c.do_step.new.self in
-    let found : slice_get (run_steps session run) c.args.pos ≡ Some c.in-Some.step.now = sym c.step_at.ensures ∙ ap option_copied c.in-Some.is in
+    let found : slice_get (run_steps session run) c.args.pos ≡ Some c.in-Some.step.now = sym c.found_step.ensures ∙ ap option_copied c.in-Some.is in
     let what = c.in-Some.step.now in
     let same : run_effect session run (slice_get (run_steps session run) c.args.pos) ran old ≡ effect session run what ran old =
     with-step session run (slice_get (run_steps session run) c.args.pos) what ran old found c.if-run.false in
