@@ -9,12 +9,12 @@ use Rattle.kern_types.specs.Programs.{place_of_function}
 use Rattle.core_isa.specs.declared.code.CodeFunction.{CodeFunction}
 use Rattle.code_forms.specs.Programs.{function_size, entry_of, entries_of, plain_names, code_of_program}
 use Rattle.code_forms.specs.Texts.{texts_of}
-use Rattle.code_suited.proofs.Functions.{typed_is_suited}
 use Rattle.code_meaning.proofs.Functions.{agrees}
 use Rattle.code_meaning.proofs.Order.{has_order}
-use Rattle.code_meaning.proofs.Short.{is_short}
+use Rattle.code_meaning.proofs.Short.{is_short, typed_is_suited}
 use Rattle.code_marks.proofs.Functions.{checked_is_marked}
 use Rattle.code_ranges.specs.Laws.{IsFit}
+pub use Rattle.code_ranges.proofs.Functions.{few_functions}
 use Rattle.code_ranges.proofs.Functions.{main_is}
 use Rattle.code_ranges.proofs.InRange.{entries_long, in_range, main_takes_nothing}
 use Rattle.code_law.specs.DoesAs.{HasFunctions, DoesAs}

@@ -8,7 +8,7 @@ use Rattle.core_isa.specs.declared.code.CodeFunction.{CodeFunction}
 use Rattle.core_isa.specs.Marks.{Marked}
 use Rattle.core_image.specs.Accepted.{MainTakesNothing}
 use Rattle.core_image.specs.Ranges.{IsInRange}
-use Rattle.code_follows.specs.Lawful.{IsLawfulStart, RunsAsMeant}
+use Rattle.code_meaning.specs.Laws.{IsLawfulStart, RunsAsMeant}
 
 -- the code has the program's functions at the same indexes: each takes as many arguments, and leaves a value where it has one
 pub record HasFunctions (program : ProgramTree) (code : Code) : Type 0 where

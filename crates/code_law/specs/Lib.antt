@@ -1,1 +1,2 @@
 pub mod DoesAs
+pub use Rattle.code_ranges.specs.Laws

@@ -3,4 +3,6 @@
 
 mod laws;
 
+/// The functions of a program that is fit are ready to be put.
+pub use code_ranges::functions_are_ready;
 pub use laws::{checked_programs_are_fit, code_does_as};

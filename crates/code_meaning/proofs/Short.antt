@@ -29,7 +29,7 @@ use Rattle.code_forms.specs.Sizes.{unless, when, unary_size, expression_size, ar
 use Rattle.code_forms.specs.Suited.{MethodHasWhatItTakes, operation_numbers, IsSuited, AreSuited, IsSuitedAlone, IfThereSuited, EachSuited, IsSuitedStatement, IsSuitedBlock, IsSuitedOtherwise, AreSuitedHandlers}
 use Rattle.code_forms.proofs.Asked.{asked_short, asked_looping_short}
 use Rattle.code_forms.proofs.StatementLengths.{functions_have_their_size}
-use Rattle.code_suited.proofs.Functions.{typed_is_suited}
+pub use Rattle.code_suited.proofs.Functions.{typed_is_suited}
 use Rattle.kern_types.specs.Checked.{IsChecked}
 
 wrapping_short : (t : ValueType) → length (wrapping t) ≤ 1

@@ -3,7 +3,7 @@ use Rattle.std.specs.Prelude.{ℕ, List, ℤ}
 use Rattle.rtio_types.specs.declared.request.Reply.{Reply}
 use Rattle.kern_syntax.specs.Tree.{FunctionTree, ProgramTree}
 use Rattle.code_forms.specs.Programs.{code_of_program}
-use Rattle.code_follows.specs.Lawful.{IsLawfulStart, RunsAsMeant}
+pub use Rattle.code_follows.specs.Lawful.{IsLawfulStart, RunsAsMeant}
 
 -- from every function, under arguments that fit it, at any cursor, with any units and under any replies that fit their requests,
 -- the run of the code asks what the function means, in the same order, and ends so, at the same cursor and with the same units

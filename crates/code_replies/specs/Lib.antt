@@ -1,1 +1,2 @@
 pub mod Laws
+pub use Rattle.code_law.specs.DoesAs

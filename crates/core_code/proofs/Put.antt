@@ -8,7 +8,7 @@ use Rattle.core_isa.specs.declared.code.CodeFunction.{CodeFunction}
 use Rattle.core_isa.specs.declared.code.CodeLine.{CodeLine}
 use Rattle.code_forms.specs.Programs.{entry_of, entries_of, function_code, function_size, functions_code}
 use Rattle.code_forms.proofs.StatementLengths.{functions_have_their_size}
-use Rattle.code_ranges.specs.Laws.{IsReadyFunction}
+use Rattle.code_law.specs.Laws.{IsReadyFunction}
 use Rattle.core_code.specs.Ready.{AreReadyFrom}
 
 -- some functions are put, the others are left and can be

@@ -2,7 +2,7 @@
 use Rattle.std.specs.Prelude.{ℕ, ◌+◌, List, [], ◌∷◌}
 use Rattle.kern_syntax.specs.Tree.{Bytes, FunctionTree, ProgramTree}
 use Rattle.code_forms.specs.Programs.{function_size}
-use Rattle.code_ranges.specs.Laws.{IsReadyFunction}
+use Rattle.code_law.specs.Laws.{IsReadyFunction}
 
 -- each of some functions has what its code needs where it stands behind those before it, from a place on
 abbrev pub AreReadyFrom : ProgramTree → (texts : List Bytes) → (place : ℕ) → List FunctionTree → Type 0

@@ -5,14 +5,13 @@ ghost use Rattle.kern_syntax.specs.Nodes.{program_nodes};
 ghost use Rattle.kern_syntax.specs.TreeOf.{tree_of};
 ghost use Rattle.code_forms.specs.Programs.{code_of_program};
 ghost use Rattle.code_law.specs.DoesAs.{DoesAs};
-ghost use Rattle.code_ranges.specs.Laws.{IsFit};
+ghost use Rattle.code_law.specs.Laws.{IsFit};
 ghost use Rattle.core_code.specs.Ends.{IsEndOf};
 
 use crate::end::CodeEnd;
 use crate::functions::put_functions;
-use code_law::{checked_programs_are_fit, code_does_as};
-use code_ranges::functions_are_ready;
-use core_code_names::texts_of;
+use code_law::{checked_programs_are_fit, code_does_as, functions_are_ready};
+use core_code_statements::texts_of;
 use core_image::{Verified, verify};
 use core_isa::{Code, CodeFunctionList, CodeLineList, NameList};
 use kern_names::{Functions, number_functions};

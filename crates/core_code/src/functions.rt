@@ -5,12 +5,11 @@ ghost use Rattle.kern_syntax.specs.TreeOf.{block_of, function_of};
 ghost use Rattle.kern_expression_types.specs.Before.{is_in};
 ghost use Rattle.code_forms.specs.Programs.{block_slots, entries_of, entry_of, function_code, function_size, functions_code};
 ghost use Rattle.code_forms.specs.Setting.{slots_of_names};
-ghost use Rattle.code_ranges.specs.Laws.{IsReadyFunction};
+ghost use Rattle.code_law.specs.Laws.{IsReadyFunction};
 ghost use Rattle.kern_names.specs.ScopeOf.{program_of};
 ghost use Rattle.core_code.specs.Ready.{AreReadyFrom};
 
-use core_code_names::{Setting, SlottedNames, Texts, block_slots};
-use core_code_statements::put_body;
+use core_code_statements::{Setting, SlottedNames, Texts, block_slots, put_body};
 use core_isa::{CodeFunction, CodeLine};
 use kern_names::{Functions, names_of};
 use kern_syntax::Function;

@@ -19,8 +19,8 @@ use crate::pieces::{
     load_instr, negated, put_and_end, put_and_test, put_filler, put_or_test, wrapped_type,
 };
 use crate::sizes::expression_size;
-use core_code_lines::{put, raised};
 use core_code_names::Setting;
+use core_code_operations::lines::{put, raised};
 use core_code_operations::{
     Callee, callee_of, method_has_value, put_comparison, put_method_instrs, put_not, put_operator,
     put_unary, text_in,

@@ -10,8 +10,8 @@ ghost use Rattle.code_forms.specs.Operations.{literal, load_instr, negated, wrap
 ghost use Rattle.code_forms.specs.Sizes.{unless, when};
 ghost use Rattle.core_code_names.specs.SettingOf.{setting_of};
 
-use core_code_lines::{put, raised};
 use core_code_names::Setting;
+use core_code_operations::lines::{put, raised};
 use core_isa::{CodeLine, Instr, Mark};
 use kern_calls::ValueType;
 use kern_syntax::{BinaryOperator, Expr, UnaryOperator};

@@ -34,7 +34,7 @@ impl Callee {
     ghost use Rattle.std.specs.Prelude.{◌≡◌, ◌++◌, OnOk, length};
     ghost use Rattle.std.specs.Option.{option_to_list};
     ghost use Rattle.code_forms.specs.Lines.{straight};
-    ghost use Rattle.code_ranges.specs.Room.{HasRoom};
+    ghost use Rattle.core_code_lines.specs.Room.{HasRoom};
 
     /// How many instructions it has: one, or none.
     pub fn size(&self) -> u32

@@ -3,7 +3,7 @@
 ghost use Rattle.std.specs.Prelude.{◌≡◌, ◌+◌, ◌<◌, ◌^◌, ◌++◌, OnOk, length};
 ghost use Rattle.code_forms.specs.Conditions.{asked_comparison, is_opposed, loop_instrs, loop_size, test_instrs, test_size};
 ghost use Rattle.code_forms.specs.Lines.{straight};
-ghost use Rattle.code_ranges.specs.Room.{HasRoom};
+ghost use Rattle.core_code_lines.specs.Room.{HasRoom};
 
 use code_forms::TestKind;
 use core_code_lines::put_all;

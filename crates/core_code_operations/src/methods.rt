@@ -6,7 +6,7 @@ ghost use Rattle.core_isa.specs.declared.instr.Instr.TheVariants as I;
 ghost use Rattle.code_forms.specs.Lines.{straight};
 ghost use Rattle.code_forms.specs.Operations.{count_instrs, gate_instrs, lead, method_has_value, method_instrs, operation_instrs, out_instrs, pulse_instrs};
 ghost use Rattle.code_forms.specs.Setting as C;
-ghost use Rattle.code_ranges.specs.Room.{HasRoom};
+ghost use Rattle.core_code_lines.specs.Room.{HasRoom};
 ghost use Rattle.core_code_names.specs.SettingOf.{setting_of};
 
 use core_code_lines::put_all;

@@ -3,7 +3,7 @@
 ghost use Rattle.std.specs.Prelude.{◌≡◌, ◌+◌, ◌++◌, [], ◌∷◌, OnOk, length};
 ghost use Rattle.code_forms.specs.Lines.{straight};
 ghost use Rattle.code_forms.specs.Operations.{operator_instr, operator_instrs, unary_instrs, comparison_instrs, not_instrs, wrapping};
-ghost use Rattle.code_ranges.specs.Room.{HasRoom};
+ghost use Rattle.core_code_lines.specs.Room.{HasRoom};
 
 use core_code_lines::put_all;
 use core_isa::{CodeLine, Instr, Mark};

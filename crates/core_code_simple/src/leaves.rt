@@ -3,7 +3,7 @@
 ghost use Rattle.std.specs.Prelude.{◌≡◌, ◌+◌, ◌++◌, [], ◌∷◌, OnOk, length};
 ghost use Rattle.code_forms.specs.Lines.{end_tries, straight};
 
-use core_code_lines::put;
+use core_code_expressions::lines::put;
 use core_isa::{CodeLine, Instr, Mark};
 use std::alloc::AllocError;
 

@@ -11,8 +11,8 @@ ghost use Rattle.core_code_simple.specs.Parts.{IsSimple};
 
 use crate::inside::Inside;
 use crate::leaves::put_behind_handlers;
+use core_code_expressions::lines::{put, put_all, raised};
 use core_code_expressions::{put_effect, put_expression};
-use core_code_lines::{put, put_all, raised};
 use core_code_names::Setting;
 use core_isa::{CodeLine, Instr};
 use kern_calls::ValueType;

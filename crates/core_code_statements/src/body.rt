@@ -8,8 +8,8 @@ ghost use Rattle.code_ranges.specs.ReadyStatements.{IsReadyBlock};
 ghost use Rattle.core_code_names.specs.SettingOf.{setting_of};
 
 use crate::blocks::put_block;
-use core_code_lines::{put, put_all};
 use core_code_names::Setting;
+use core_code_simple::lines::{put, put_all};
 use core_code_simple::{Inside, LoopPlaces};
 use core_isa::{CodeLine, Instr, Mark};
 use kern_syntax::Block;

@@ -11,12 +11,10 @@ ghost use Rattle.core_code_statements.specs.Parts.{branch_code, is_followed};
 
 use crate::blocks::put_block;
 use code_forms::TestKind;
-use core_code_expressions::{is_turned, put_asked};
-use core_code_lines::{put, raised};
 use core_code_names::Setting;
-use core_code_operations::put_test;
-use core_code_simple::Inside;
-use core_code_sizes::branch_size;
+use core_code_simple::lines::{put, raised};
+use core_code_simple::{Inside, put_asked, put_test};
+use core_code_sizes::{branch_size, is_turned};
 use core_isa::{CodeLine, Instr};
 use kern_syntax::{Block, Elif, Expr};
 use std::alloc::AllocError;

@@ -12,9 +12,9 @@ ghost use Rattle.core_code_statements.specs.Parts.{tried_code, tried_size};
 
 use crate::blocks::put_block;
 use crate::exceptions::exception_code;
-use core_code_lines::{put, put_all, raised, with_handler};
 use core_code_names::Setting;
 use core_code_simple::Inside;
+use core_code_simple::lines::{put, put_all, raised, with_handler};
 use core_code_sizes::block_size;
 use core_isa::{CodeLine, Instr};
 use kern_syntax::{Block, Handler};

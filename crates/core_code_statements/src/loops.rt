@@ -11,12 +11,10 @@ ghost use Rattle.core_code_simple.specs.InsideOf.{inside_of};
 
 use crate::blocks::put_block;
 use code_forms::TestKind;
-use core_code_expressions::{asked_size, is_turned, put_asked, put_expression};
-use core_code_lines::{put_all, raised};
 use core_code_names::Setting;
-use core_code_operations::{loop_size, put_loop_test};
-use core_code_simple::{Inside, LoopPlaces};
-use core_code_sizes::block_size;
+use core_code_simple::lines::{put_all, raised};
+use core_code_simple::{Inside, LoopPlaces, put_asked, put_expression, put_loop_test};
+use core_code_sizes::{asked_size, block_size, is_turned, loop_size};
 use core_isa::{CodeLine, Instr};
 use kern_syntax::{Block, Expr};
 use std::alloc::AllocError;

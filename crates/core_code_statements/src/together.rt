@@ -10,9 +10,9 @@ ghost use Rattle.core_code_names.specs.SettingOf.{setting_of};
 ghost use Rattle.core_code_simple.specs.InsideOf.{inside_of};
 
 use crate::blocks::put_statement;
-use core_code_lines::put_all;
 use core_code_names::Setting;
 use core_code_simple::Inside;
+use core_code_simple::lines::put_all;
 use core_isa::{CodeLine, Instr};
 use kern_syntax::Block;
 use std::alloc::AllocError;

@@ -20,14 +20,13 @@ use Rattle.core_isa.specs.declared.code.Code.{Code}
 use Rattle.core_cpu.specs.Moments.{Moment}
 use Rattle.core_session.specs.Sessions.{Answered, entry_of, requests_of}
 use Rattle.core_session.specs.Standing.{Session}
-use Rattle.code_law.specs.DoesAs.{DoesAs}
-use Rattle.code_replies.specs.Laws.{RunsAreMeant}
 use Rattle.kern_syntax.specs.Tree.{ProgramTree}
-use Rattle.kernel_session.specs.Meant.{TakesArguments}
+use Rattle.lab_kernels.specs.DoesAs.{DoesAs}
 use Rattle.lab_kernels.specs.Kernels.{AreAskedAtTop, KernelRun, session_entries, sets_of}
+use Rattle.lab_kernels.specs.Meant.{TakesArguments}
 use Rattle.lab_kernels.specs.Runs.{RunsCode}
 use Rattle.lab_kernels.specs.Standing.{Begins, HasUnderWay, IsUnderWay, LeadsTo, entries_so_far}
-use Rattle.lab_kernels.proofs.Meanings.{means_program}
+use Rattle.lab_kernels.proofs.Meanings.{RunsAreMeant, means_program}
 use Rattle.lab_kernels.proofs.Playing.{Leads, SoFar, so-far-open}
 use Rattle.lab_kernels.proofs.Whole.{IsBooted, begins, session_of}
 use Rattle.desk_kernels.specs.Chairs.{CoreChair, core_entries}

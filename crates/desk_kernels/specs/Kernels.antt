@@ -9,8 +9,9 @@ use Rattle.rtio_core.specs.Booked.{booked_acts}
 use Rattle.sched_state.specs.declared.entry.KernelResult.{KernelResult}
 use Rattle.core_isa.specs.declared.code.Code.{Code}
 use Rattle.kern_syntax.specs.Tree.{ProgramTree}
-use Rattle.lab_kernels.specs.Kernels.{KernelRun, result_of, session_entries}
-use Rattle.lab_kernels.specs.Meanings.{IsKernelSession}
+pub use Rattle.lab_kernels.specs.Kernels.{KernelRun, entries_until_end, session_entries}
+use Rattle.lab_kernels.specs.Kernels.{result_of}
+pub use Rattle.lab_kernels.specs.Meanings.{IsKernelSession}
 use Rattle.desk_kernels.specs.Chairs.{CoreChair}
 
 -- The chair found a history which goes on from what it had seen, without an act of its own that it hadn't put. Behind that it put one session

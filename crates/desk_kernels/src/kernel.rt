@@ -3,14 +3,13 @@
 ghost use Rattle.std.specs.Prelude.{IfOk};
 ghost use mathlib.Core.List.{IsPrefix};
 ghost use Rattle.kern_syntax.specs.TreeOf.{tree_of};
-ghost use Rattle.kernel_session.specs.Meant.{TakesArguments};
+ghost use Rattle.lab_kernels.specs.Meant.{TakesArguments};
 ghost use Rattle.desk_kernels.specs.Chairs.{IsAt, IsSameChair, KnowsItsOwn};
 ghost use Rattle.desk_kernels.specs.Kernels.{RunsKernelAt};
 
 use crate::running::run_function_at;
-use code_replies::runs_with_fitting_replies_are_meant;
-use core_code::Compiled;
 use desk::{Chair, Desk};
+use lab_kernels::{Compiled, runs_with_fitting_replies_are_meant};
 use rtio_core::{Core, StartOf};
 use sched_state::KernelResult;
 use std::alloc::{AllocError, Global};

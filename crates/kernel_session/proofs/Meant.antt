@@ -14,8 +14,8 @@ use Rattle.kern_arguments.specs.Fitting.{ArgumentsFit}
 use Rattle.timeline_sem.specs.Programs.{Meaning}
 use Rattle.code_follows.specs.Lawful.{ran_as}
 use Rattle.code_follows.specs.Stands.{AllNumbersFit, NumbersFit}
-use Rattle.code_law.specs.DoesAs.{HasFunctions}
-use Rattle.code_replies.specs.Laws.{RunsAreMeant}
+use Rattle.code_replies.specs.DoesAs.{HasFunctions}
+pub use Rattle.code_replies.specs.Laws.{RunsAreMeant}
 use Rattle.core_session.specs.Scripts.{HasNumber, HaveNumbers, IsScriptOf, next_of}
 use Rattle.core_session.specs.Sessions.{Account, account_of}
 use Rattle.kernel_session.specs.Meant.{TakesArguments, account_of_meaning, meant, script_of}

@@ -27,7 +27,7 @@ use Rattle.core_cpu.specs.Standing.{HasEntry, Start as Beginning}
 use Rattle.kern_syntax.specs.Tree.{ProgramTree}
 use Rattle.timeline_sem.specs.Programs.{Meaning}
 use Rattle.code_follows.specs.Lawful.{ran_as}
-use Rattle.code_law.specs.DoesAs.{DoesAs}
+use Rattle.code_replies.specs.DoesAs.{DoesAs}
 use Rattle.code_replies.proofs.Meant.{runs_are_meant}
 use Rattle.code_replies.proofs.Runs.{replies_extend_runs}
 use Rattle.core_session.specs.Scripts.{Asks, HaveNumbers, Next, TellsRuns, asks_last, next_of}

@@ -16,7 +16,7 @@ use Rattle.timeline_sem.specs.declared.meant.MeantOutcome.TheVariants as M
 use Rattle.timeline_sem.specs.Programs.{Meaning}
 use Rattle.timeline_sem.proofs.ExtendsWhole.{replies_extend_meanings}
 use Rattle.code_follows.specs.Lawful.{IsLawfulStart, machine_end, ran_as}
-use Rattle.code_law.specs.DoesAs.{DoesAs}
+use Rattle.code_replies.specs.DoesAs.{DoesAs}
 use Rattle.code_replies.proofs.Runs.{replies_extend_runs}
 use Rattle.core_session.specs.Scripts.{HaveNumbers}
 use Rattle.core_session.specs.Sessions.{Account, account_of}

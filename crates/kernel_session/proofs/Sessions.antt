@@ -10,7 +10,7 @@ use Rattle.rtio_core.specs.Core.{CoreState}
 use Rattle.core_isa.specs.declared.code.Code.{Code}
 use Rattle.core_isa.specs.WellAsked.{RepliesFit}
 use Rattle.kern_syntax.specs.Tree.{ProgramTree}
-use Rattle.code_law.specs.DoesAs.{DoesAs}
+use Rattle.code_replies.specs.DoesAs.{DoesAs}
 use Rattle.code_replies.specs.Laws.{RunsAreMeant}
 use Rattle.run_schedule.specs.Schedules.{ScheduleState}
 use Rattle.core_session.specs.declared.running.Ran.{Ran as Told}

@@ -11,7 +11,7 @@ use Rattle.kern_syntax.specs.declared.program.Parameter.{Parameter}
 use Rattle.kern_syntax.specs.TreeOf.{function_of, parameter_of, tree_of}
 use Rattle.kern_syntax.specs.Tree.{FunctionTree, ParameterTree, ProgramTree}
 use Rattle.kern_arguments.specs.Fitting.{ArgumentsFit}
-use Rattle.code_law.specs.DoesAs.{DoesAs}
+use Rattle.code_replies.specs.DoesAs.{DoesAs}
 use Rattle.kernel_session.specs.Meant.{TakesArguments}
 
 none_fit : (parameters : List ParameterTree) → length parameters ≡ 0 → ArgumentsFit parameters []

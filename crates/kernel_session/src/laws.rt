@@ -5,7 +5,7 @@ ghost use Rattle.kern_syntax.specs.Tree.{ProgramTree};
 ghost use Rattle.core_isa.specs.declared.code.Code.{Code};
 ghost use Rattle.core_isa.specs.Marks.{HasOrder, Marked};
 ghost use Rattle.rtio_core.specs.declared.data.Config.{Config};
-ghost use Rattle.code_law.specs.DoesAs.{DoesAs};
+ghost use Rattle.code_replies.specs.DoesAs.{DoesAs};
 ghost use Rattle.kernel_session.specs.Counted.{OutputsAndResetsCount};
 ghost use Rattle.kernel_session.specs.Laws.{PlaysWhatItGets, RunsPlayWhatTheyGet, SessionsPlayRecordings};
 ghost use Rattle.kernel_session.specs.Meant.{TakesArguments};

@@ -12,12 +12,12 @@ use Rattle.sched_state.specs.declared.entry.KernelResult.{KernelResult}
 use Rattle.core_isa.specs.declared.code.Code.{Code}
 use Rattle.core_isa.specs.WellAsked.{RepliesFit}
 use Rattle.kern_syntax.specs.Tree.{ProgramTree}
-use Rattle.code_law.specs.DoesAs.{DoesAs}
-use Rattle.code_replies.specs.Laws.{RunsAreMeant}
 use Rattle.core_cpu.specs.Standing.{Start as Beginning}
 use Rattle.core_session.specs.Scripts.{HaveNumbers}
 use Rattle.core_session.specs.Sessions.{Account, Answered, EndsAs, account_of, beginning_of, replies_of, requests_of}
+use Rattle.kernel_session.specs.DoesAs.{DoesAs}
 use Rattle.kernel_session.specs.Meant.{TakesArguments, account_of_meaning, meant}
+pub use Rattle.kernel_session.proofs.Meant.{RunsAreMeant, has_entry}
 use Rattle.kernel_session.proofs.Meant.{same_account}
 use Rattle.kernel_session.proofs.Playbacks.{plays_recordings}
 use Rattle.lab_kernels.specs.CutShort.{AreAsked, CodeAsks, IsStopped, LacksReply, LeavesCode}

@@ -5,3 +5,5 @@ pub mod CutShort
 pub mod Standing
 pub mod Runs
 pub mod Meanings
+pub use Rattle.kernel_session.specs.DoesAs
+pub use Rattle.kernel_session.specs.Meant

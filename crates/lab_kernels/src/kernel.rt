@@ -7,8 +7,7 @@ ghost use Rattle.kernel_session.specs.Meant.{TakesArguments};
 ghost use Rattle.lab_kernels.specs.Meanings.{LeavesKernel, RunsKernel};
 
 use crate::running::run_function;
-use code_replies::runs_with_fitting_replies_are_meant;
-use core_code::Compiled;
+use kernel_session::{Compiled, runs_with_fitting_replies_are_meant};
 use rtio_core::{Core, StartOf};
 use sched_state::KernelResult;
 use std::alloc::{AllocError, Global};

@@ -14,8 +14,9 @@ use Rattle.sched_state.specs.Lawful.{state_after}
 use Rattle.sched_core.specs.declared.answer.Job.TheVariants.{Step}
 use Rattle.sched_core.specs.Calls.{IsJobFor}
 use Rattle.sched_core.specs.Scheds.{IsSched, SchedValue}
-use Rattle.code_law.specs.DoesAs.{DoesAs}
-use Rattle.lab_kernels.specs.Kernels.{AreAskedAtTop, KernelRun, session_entries}
+use Rattle.lab_kernels.specs.DoesAs.{DoesAs}
+pub use Rattle.lab_kernels.specs.Kernels.{AreAskedAtTop}
+use Rattle.lab_kernels.specs.Kernels.{KernelRun, session_entries}
 use Rattle.lab_kernels.specs.Meanings.{IsKernelSession}
 use Rattle.lab_kits.specs.declared.kit.Kit.{Kit}
 use Rattle.lab_kits.specs.Calls.{HasFunction}

@@ -5,3 +5,4 @@ pub mod Ties
 pub mod Judged
 pub mod Finished
 pub mod Laws
+pub use Rattle.lab_kernels.specs.DoesAs

@@ -13,7 +13,7 @@ use Rattle.sched_state.specs.Reports.{run_steps}
 use Rattle.sched_core.specs.Scheds.{source_of_run}
 use Rattle.kern_syntax.specs.Tree.{Bytes, ProgramTree}
 use Rattle.core_isa.specs.declared.code.Code.{Code}
-use Rattle.code_law.specs.DoesAs.{DoesAs}
+use Rattle.lab_kernels.specs.DoesAs.{DoesAs}
 use Rattle.lab_kernels.specs.Kernels.{AreAskedAtTop, KernelRun, session_entries}
 use Rattle.lab_kernels.specs.Meanings.{MeansProgram}
 use Rattle.lab_kernels.specs.Runs.{RunsCode}

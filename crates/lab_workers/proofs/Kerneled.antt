@@ -24,10 +24,8 @@ use Rattle.sched_state.specs.Lawful.{state_after}
 use Rattle.sched_core.specs.declared.answer.Job.TheVariants as job
 use Rattle.sched_core.specs.Calls.{IsJobFor, entry_of}
 use Rattle.sched_core.specs.Scheds.{SchedValue}
-use Rattle.code_law.specs.DoesAs.{DoesAs}
+use Rattle.lab_ties.specs.DoesAs.{DoesAs}
 use Rattle.core_session.specs.Sessions.{entry_of as core_entry_of}
-use Rattle.lab_kernels.specs.Kernels.{KernelRun, entries_until_end, session_entries}
-use Rattle.lab_kernels.specs.Meanings.{IsKernelSession}
 use Rattle.lab_kits.specs.declared.kit.Kit.{Kit}
 use Rattle.lab_kits.specs.Calls.{HasFunction}
 use Rattle.lab_kits.specs.Kits.{KitCall, KitText, kit_source, program_in}
@@ -46,7 +44,7 @@ use Rattle.stage_work.specs.Jobs.{HasTaken as HasTakenIn}
 use Rattle.stage_work.specs.Stepping.{step_job}
 use Rattle.desk_kernels.proofs.Seen.{booked-append, entries-booked}
 use Rattle.desk_kernels.specs.Chairs.{CoreChair, KnowsItsOwn, core_entries}
-use Rattle.desk_kernels.specs.Kernels.{RunsKernelAt}
+use Rattle.desk_kernels.specs.Kernels.{IsKernelSession, KernelRun, RunsKernelAt, entries_until_end, session_entries}
 use Rattle.lab_workers.specs.declared.desks.Desks.{Desks}
 use Rattle.lab_workers.specs.declared.tasks.Report.TheVariants as report
 use Rattle.lab_workers.specs.Reports.{HasTold, step_told}

@@ -6,7 +6,7 @@ use Rattle.rtio_core.specs.declared.data.StartOf.{StartOf}
 use Rattle.exp_model.specs.declared.step.HostStep.{HostStep}
 use Rattle.exp_model.specs.declared.step.HostStep.TheVariants.{Kernel}
 use Rattle.sched_state.specs.declared.entry.KernelResult.{KernelResult}
-use Rattle.kernel_session.specs.Meant.{TakesArguments}
+use Rattle.desk_kernels.specs.Meant.{TakesArguments}
 use Rattle.lab_kits.specs.declared.kit.Kit.{Kit}
 use Rattle.lab_kits.specs.Calls.{HasFunction}
 use Rattle.lab_kits.specs.Kits.{program_in}

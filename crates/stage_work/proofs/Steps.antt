@@ -16,7 +16,7 @@ use Rattle.sched_state.specs.Lawful.{state_after}
 use Rattle.sched_state.specs.Reports.{step_effect}
 use Rattle.sched_core.specs.Calls.{IsJobFor, entry_of, found_pipeline, stepped}
 use Rattle.sched_core.specs.Scheds.{SchedValue, sched_state}
-use Rattle.code_law.specs.DoesAs.{DoesAs}
+use Rattle.lab_ties.specs.DoesAs.{DoesAs}
 use Rattle.lab_kernels.specs.Kernels.{KernelRun, result_of}
 use Rattle.lab_kits.specs.declared.kit.Kit.{Kit}
 use Rattle.lab_kits.specs.Kits.{KitCall, KitText, kit_source, program_in}

@@ -13,7 +13,7 @@ use Rattle.sched_core.specs.declared.answer.Job.{Job}
 use Rattle.sched_core.specs.declared.answer.Job.TheVariants as job
 use Rattle.sched_core.specs.Calls.{name_of}
 use Rattle.sched_core.specs.Scheds.{SchedValue, sched_state}
-use Rattle.lab_kernels.specs.Kernels.{ArePrompt}
+pub use Rattle.lab_kernels.specs.Kernels.{ArePrompt}
 use Rattle.lab_kits.specs.declared.kit.Kit.{Kit}
 use Rattle.lab_ties.specs.Acts.{core_acts, sched_acts}
 use Rattle.lab_ties.specs.Judged.{IsJudged}

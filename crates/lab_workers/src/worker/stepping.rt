@@ -2,7 +2,7 @@
 
 ghost use Rattle.std.specs.Prelude.{◌<◌, length, IfOk, OnOk};
 ghost use Rattle.sched_state.specs.declared.entry.JobName.TheVariants as name;
-ghost use Rattle.kernel_session.specs.Meant.{TakesArguments};
+ghost use Rattle.desk_kernels.specs.Meant.{TakesArguments};
 ghost use Rattle.lab_kits.specs.Kits.{program_in};
 ghost use Rattle.lab_workers.specs.Rounds.{GoesOn, KeepsRest};
 ghost use Rattle.lab_workers.specs.Stepping.{HasDone, MayStart, RunsAt};

@@ -4,7 +4,7 @@ use Rattle.kern_syntax.specs.declared.program.Function.{Function}
 use Rattle.kern_syntax.specs.TreeOf.{function_of, tree_of}
 use Rattle.kern_types.specs.Checked.{IsChecked}
 use Rattle.code_forms.specs.Texts.{texts_of}
-use Rattle.code_ranges.proofs.Functions.{few_functions}
+use Rattle.code_law.proofs.Whole.{few_functions}
 use Rattle.core_code.specs.Ready.{AreReadyFrom}
 use Rattle.core_code.proofs.Put.{ready_from_zero}
 use Rattle.core_code.proofs.compiling.code_of.Goals as goal

@@ -2,7 +2,7 @@ use Rattle.std.proofs.Common.{subst}
 use Rattle.std.specs.Prelude.{IfOk}
 use Rattle.kern_syntax.specs.TreeOf.{tree_of}
 use Rattle.core_isa.specs.declared.code.Code.{Code}
-use Rattle.kernel_session.proofs.Meant.{has_entry}
+use Rattle.lab_kernels.proofs.Meanings.{has_entry}
 use Rattle.desk_kernels.specs.Kernels.{RunsKernelAt}
 use Rattle.desk_kernels.proofs.Played.{kernel-at}
 use Rattle.desk_kernels.proofs.kernel.run_kernel_at.Goals as goal

@@ -3,9 +3,8 @@ use Rattle.std.proofs.lemmas.Result.{on_err_weaker}
 use Rattle.std.specs.Prelude.{IfOk}
 use Rattle.kern_syntax.specs.TreeOf.{tree_of}
 use Rattle.core_isa.specs.declared.code.Code.{Code}
-use Rattle.kernel_session.proofs.Meant.{has_entry}
 use Rattle.lab_kernels.specs.Meanings.{RunsKernel}
-use Rattle.lab_kernels.proofs.Meanings.{kernel_left, kernel_ok}
+use Rattle.lab_kernels.proofs.Meanings.{has_entry, kernel_left, kernel_ok}
 use Rattle.lab_kernels.proofs.kernel.run_kernel.Goals as goal
 
 pub run_function-requires-clause-entry : goal.run_function-requires-clause-entry

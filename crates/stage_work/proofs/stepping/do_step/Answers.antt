@@ -1,6 +1,6 @@
 use Rattle.std.proofs.Common.{sym, subst}
 use Rattle.std.proofs.lemmas.Result.{on_ok_weaker}
-use Rattle.code_law.specs.DoesAs.{DoesAs}
+use Rattle.lab_ties.specs.DoesAs.{DoesAs}
 use Rattle.lab_kits.specs.Kits.{program_in}
 use Rattle.sched_core.specs.Scheds.{SchedValue}
 use Rattle.stage_work.specs.Serving.{AreServedCores}
