@@ -13,7 +13,7 @@ use Rattle.kern_expression_types.specs.Answers.{IsEndOf, Leaves, Passes}
 use Rattle.kern_expression_types.specs.Before.{Functions, is_reserved}
 use Rattle.kern_calls.specs.Calls.{look_up}
 use Rattle.kern_expression_types.specs.Numbered.{numbered}
-use Rattle.kern_types.specs.Plain.{with_plain}
+use Rattle.kern_plain.specs.Plain.{with_plain}
 use Rattle.kern_types.specs.Programs.{body_functions, body_verdict, function_verdict, functions_verdict, most_functions}
 use Rattle.kern_calls.specs.Types.{function_named}
 use Rattle.kern_expression_types.specs.Verdicts.{Verdict, well, fault, is_well, refuse_if, ◌>>=◌, ◌>>◌}

@@ -7,7 +7,7 @@ use Rattle.kern_syntax.specs.declared.program.Function.{Function}
 use Rattle.kern_syntax.specs.Tree.{Bytes, FunctionTree, ProgramTree}
 use Rattle.kern_syntax.specs.TreeOf.{function_of, tree_of}
 use Rattle.kern_expression_types.specs.declared.fault.TypeKind.{TypeKind}
-use Rattle.kern_types.specs.Plain.{with_plain}
+use Rattle.kern_plain.specs.Plain.{with_plain}
 use Rattle.kern_expression_types.specs.declared.fault.TypeKind.TheVariants as K
 use Rattle.kern_expression_types.specs.Before.{is_reserved}
 use Rattle.kern_calls.specs.Types.{function_named}

@@ -1,5 +1,5 @@
 pub mod Checked
-pub mod Plain
-pub mod PlainFunctions
 pub mod Programs
 pub mod Statements
+pub use Rattle.kern_plain.specs.Plain
+pub use Rattle.kern_plain.specs.PlainFunctions

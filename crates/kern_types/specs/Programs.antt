@@ -7,7 +7,7 @@ use Rattle.kern_calls.specs.Calls.{look_up}
 use Rattle.kern_calls.specs.Types.{Names, declared_type, function_named}
 use Rattle.kern_expression_types.specs.Verdicts.{Verdict, well, ◌>>=◌, ◌>>◌, refuse_if, is_well}
 use Rattle.kern_expression_types.specs.Before.{Functions, is_reserved, is_taken}
-use Rattle.kern_types.specs.Plain.{with_plain}
+use Rattle.kern_plain.specs.Plain.{with_plain}
 use Rattle.kern_types.specs.Statements.{block_verdict}
 
 -- the most functions of a program, and the most parameters of a function

@@ -5,11 +5,12 @@ ghost use Rattle.kern_syntax.specs.Grammatical.{IsGrammatical};
 ghost use Rattle.kern_syntax.specs.Spellable.{IsSpellableProgram};
 ghost use Rattle.kern_syntax.specs.TreeOf.{tree_of};
 ghost use Rattle.kern_expression_types.specs.Answers.{IsEndOf, IsMemory};
-ghost use Rattle.kern_types.specs.PlainFunctions.{plain_names};
+ghost use Rattle.kern_plain.specs.PlainFunctions.{plain_names};
 ghost use Rattle.kern_types.specs.Programs.{IsTyped, program_verdict, place_of_function};
 
-use crate::program::{check_functions, plain_functions};
+use crate::program::check_functions;
 use kern_expression_types::{NameList, TypeEnd};
+use kern_plain::plain_functions;
 use kern_syntax::{Function, Program};
 use std::alloc::Global;
 use std::marker::Model;

@@ -4,7 +4,6 @@
 mod blocks;
 mod checking;
 mod headers;
-mod plain;
 mod program;
 mod statements;
 

@@ -2,19 +2,17 @@
 
 ghost use Rattle.std.specs.Prelude.{◌≡◌, ◌+◌, List, ℕ, Some, codes, is_some, length, slice_get, take, IfOk, IfErr, OnOk};
 ghost use Rattle.kern_syntax.specs.TreeOf.{function_of, tree_of};
-ghost use Rattle.kern_expression_types.specs.Answers.{Finds, Leaves, Passes, IsMemory};
+ghost use Rattle.kern_expression_types.specs.Answers.{Finds, Passes, IsMemory};
 ghost use Rattle.kern_expression_types.specs.Before.{is_in};
 ghost use Rattle.kern_expression_types.specs.Numbered.{numbered};
-ghost use Rattle.kern_types.specs.Plain.{with_plain};
 ghost use Rattle.kern_types.specs.Programs.{function_verdict, main_verdict, program_verdict};
 ghost use Rattle.kern_calls.specs.Types.{function_named};
-ghost use Rattle.kern_expression_types.specs.Verdicts.{well};
 
 use crate::headers::check_body;
-use crate::plain::is_plain_function;
 use kern_expression_types::{
     FunctionNumbers, Known, NameList, TypeEnd, TypeFault, TypeKind, is_reserved, refuse_if,
 };
+use kern_plain::note_plain;
 use kern_syntax::Function;
 use std::alloc::Global;
 
@@ -85,17 +83,6 @@ fn check_function(
     }
 }
 
-// Adds a function to the plain ones, if it is one.
-fn note_plain(alloc: Global, plain: &mut NameList, function: &Function) -> Result<(), TypeEnd>
-    ensures { Leaves result plain.new (well (with_plain plain.old (function_of function.now))) }
-{
-    if is_plain_function(plain, function) {
-        plain.add(alloc, function.name.bytes())
-    } else {
-        Ok(())
-    }
-}
-
 // Checks that there is a function `main` without parameters.
 fn check_main(functions: &[Function]) -> Result<(), TypeFault>
     ensures { Finds result (main_verdict (tree_of functions.now)) }
@@ -123,19 +110,4 @@ fn has_no_parameters(function: &Function) -> bool
         [] => true,
         [_, ..] => false,
     }
-}
-
-ghost use Rattle.std.specs.Prelude.{[]};
-ghost use Rattle.kern_types.specs.PlainFunctions.{plain_names};
-
-/// The names of the plain functions, in the order of the text.
-pub fn plain_functions(alloc: Global, functions: &[Function]) -> Result<NameList, TypeEnd>
-    ensures names { IfOk result (λ plain. plain ≡ plain_names [] (tree_of functions.now)) }
-    ensures memory { IfErr result IsMemory }
-{
-    let mut plain = NameList::new(alloc);
-    for function in functions.iter() {
-        note_plain(alloc, &mut plain, function)?;
-    }
-    Ok(plain)
 }

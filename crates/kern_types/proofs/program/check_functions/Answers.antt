@@ -4,7 +4,7 @@ use Rattle.std.proofs.lemmas.Result.{err_from_is_err_and}
 use Rattle.kern_syntax.specs.TreeOf.{function_of, tree_of}
 use Rattle.kern_expression_types.specs.Answers.{IsEndOf}
 use Rattle.kern_expression_types.specs.Numbered.{numbered}
-use Rattle.kern_types.specs.Plain.{with_plain}
+use Rattle.kern_plain.specs.Plain.{with_plain}
 use Rattle.kern_types.specs.Programs.{function_verdict, functions_verdict, main_verdict, program_verdict}
 use Rattle.kern_expression_types.specs.Verdicts.{is_well}
 use Rattle.kern_expression_types.proofs.Lists.{drop-item}

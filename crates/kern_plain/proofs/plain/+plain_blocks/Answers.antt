@@ -2,11 +2,11 @@ use Rattle.std.proofs.Common.{rules, ◌≡◌, ◌+◌, ◌++◌, [], ◌∷◌
 use Rattle.kern_syntax.specs.declared.statement.StmtKind.TheFolds.{the_lemmas}
 use Rattle.kern_syntax.specs.Tree.{if_then}
 use Rattle.kern_syntax.specs.TreeOf.{expression_of, block_of, branches_of, elif_of, statement_of}
-use Rattle.kern_types.specs.Plain.{is_plain_expression, is_plain_block, is_plain_otherwise, is_plain_statement}
+use Rattle.kern_plain.specs.Plain.{is_plain_expression, is_plain_block, is_plain_otherwise, is_plain_statement}
 use Rattle.kern_expression_types.proofs.Lists.{drop-item}
-use Rattle.kern_types.proofs.PlainNames.{branch-plain, branch-live, if-values}
-use Rattle.kern_types.proofs.plain.+plain_blocks.Goals as goal
-use Rattle.kern_types.proofs.plain.+plain_blocks.Goals.{is_plain_statement-then-is_plain_expression, is_plain_statement-else-is_plain_expression, is_plain_statement-then-is_plain_block, is_plain_statement-else-is_plain_block}
+use Rattle.kern_plain.proofs.PlainNames.{branch-plain, branch-live, if-values}
+use Rattle.kern_plain.proofs.plain.+plain_blocks.Goals as goal
+use Rattle.kern_plain.proofs.plain.+plain_blocks.Goals.{is_plain_statement-then-is_plain_expression, is_plain_statement-else-is_plain_expression, is_plain_statement-then-is_plain_block, is_plain_statement-else-is_plain_block}
 
 pub are_plain_branches-returns-then-not-is_plain_elif :
     goal.are_plain_branches-returns-then-not-is_plain_elif

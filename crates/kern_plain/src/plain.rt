@@ -5,7 +5,7 @@ ghost use Rattle.kern_syntax.specs.Tree.{no_more};
 ghost use Rattle.kern_syntax.specs.TreeOf.{expression_of, argument_of, arguments_of, block_of, statement_of, branches_of, handlers_of, function_of};
 ghost use Rattle.kern_expression_types.specs.Before.{is_in};
 ghost use Rattle.kern_calls.specs.Calls.{builtin_named, method_named};
-ghost use Rattle.kern_types.specs.Plain.{is_plain_call, is_plain_method, is_plain_expression, are_plain_arguments, is_plain_block, is_plain_statement, is_plain_otherwise, are_plain_handlers, is_plain_function};
+ghost use Rattle.kern_plain.specs.Plain.{is_plain_call, is_plain_method, is_plain_expression, are_plain_arguments, is_plain_block, is_plain_statement, is_plain_otherwise, are_plain_handlers, is_plain_function};
 
 use kern_calls::{builtin_named, method_named};
 use kern_expression_types::NameList;
@@ -106,7 +106,7 @@ fn are_plain_elements(plain: &NameList, own: &[u8], elements: &[Expr]) -> bool
     true
 }
 
-ghost use Rattle.kern_types.specs.Plain.{is_plain_target};
+ghost use Rattle.kern_plain.specs.Plain.{is_plain_target};
 
 fn is_plain_target(plain: &NameList, own: &[u8], target: &Target) -> bool
     ensures { result ≡ is_plain_target (plain.now ++ own.now ∷ []) target.now }

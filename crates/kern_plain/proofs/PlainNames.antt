@@ -6,8 +6,8 @@ use Rattle.kern_syntax.specs.Tree.{Bytes, Expression, Otherwise, no_else, else_d
 use Rattle.kern_syntax.specs.Tree
 use Rattle.kern_syntax.specs.TreeOf.{block_of, branches_of, elif_of, else_of}
 use Rattle.kern_expression_types.specs.Before.{is_in}
-use Rattle.kern_types.specs.Plain.{is_plain_otherwise, is_plain_expression, is_plain_block, is_plain_statement}
-use Rattle.kern_types.proofs.Branches.{with_end, IsOpen, elif-end, elif-open, branches_of-end, open-branches}
+use Rattle.kern_plain.specs.Plain.{is_plain_otherwise, is_plain_expression, is_plain_block, is_plain_statement}
+use Rattle.kern_plain.proofs.Branches.{with_end, IsOpen, elif-end, elif-open, branches_of-end, open-branches}
 
 or-false : (b : Bool) → (b || false) ≡ b
 or-false true = refl

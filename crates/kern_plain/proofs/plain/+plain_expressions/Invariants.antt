@@ -1,7 +1,7 @@
 use Rattle.std.proofs.Common.{◌≡◌, ◌++◌, [], ◌∷◌, drop}
 use Rattle.kern_syntax.specs.TreeOf.{arguments_of}
-use Rattle.kern_types.specs.Plain.{are_plain_arguments}
-use Rattle.kern_types.proofs.plain.+plain_expressions.Given as goal
+use Rattle.kern_plain.specs.Plain.{are_plain_arguments}
+use Rattle.kern_plain.proofs.plain.+plain_expressions.Given as goal
 
 abbrev pub invariant-are_plain_arguments-loop-argument :
     goal.invariant-are_plain_arguments-loop-argument

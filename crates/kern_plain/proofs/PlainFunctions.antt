@@ -5,8 +5,8 @@ use Rattle.kern_syntax.specs.Tree.{Bytes}
 use Rattle.kern_syntax.specs.TreeOf.{function_of, tree_of}
 use Rattle.kern_expression_types.specs.Verdicts.{Verdict, well, fault}
 use Rattle.kern_expression_types.proofs.Lists.{drop-item}
-use Rattle.kern_types.specs.Plain.{with_plain}
-use Rattle.kern_types.specs.PlainFunctions.{plain_names}
+use Rattle.kern_plain.specs.Plain.{with_plain}
+use Rattle.kern_plain.specs.PlainFunctions.{plain_names}
 
 abbrev found : Verdict (List Bytes) → List Bytes
 found (well names) = names

@@ -1,8 +1,8 @@
 use Rattle.std.proofs.Common.{◌≡◌, ◌++◌, [], ◌∷◌, drop, map}
 use Rattle.std.specs.List.{list_all}
 use Rattle.kern_syntax.specs.TreeOf.{expression_of}
-use Rattle.kern_types.specs.Plain.{is_plain_expression}
-use Rattle.kern_types.proofs.plain.are_plain_elements.Given as goal
+use Rattle.kern_plain.specs.Plain.{is_plain_expression}
+use Rattle.kern_plain.proofs.plain.are_plain_elements.Given as goal
 
 abbrev pub invariant-loop-element : goal.invariant-loop-element
 invariant-loop-element l =

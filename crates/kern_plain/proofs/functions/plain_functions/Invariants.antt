@@ -1,7 +1,7 @@
 use Rattle.std.proofs.Common.{◌≡◌, [], drop}
 use Rattle.kern_syntax.specs.TreeOf.{tree_of}
-use Rattle.kern_types.specs.PlainFunctions.{plain_names}
-use Rattle.kern_types.proofs.program.plain_functions.Given as goal
+use Rattle.kern_plain.specs.PlainFunctions.{plain_names}
+use Rattle.kern_plain.proofs.functions.plain_functions.Given as goal
 
 abbrev pub invariant-loop-function : goal.invariant-loop-function
 invariant-loop-function l =

@@ -1,7 +1,7 @@
 use Rattle.std.proofs.Common.{◌≡◌, ◌++◌, [], ◌∷◌, None, drop}
 use Rattle.kern_syntax.specs.TreeOf.{block_of, lines_of, branches_of, handlers_of}
-use Rattle.kern_types.specs.Plain.{is_plain_block, is_plain_otherwise, are_plain_handlers}
-use Rattle.kern_types.proofs.plain.+plain_blocks.Given as goal
+use Rattle.kern_plain.specs.Plain.{is_plain_block, is_plain_otherwise, are_plain_handlers}
+use Rattle.kern_plain.proofs.plain.+plain_blocks.Given as goal
 
 abbrev pub invariant-is_plain_block-loop-statement : goal.invariant-is_plain_block-loop-statement
 invariant-is_plain_block-loop-statement l =

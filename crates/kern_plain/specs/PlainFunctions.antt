@@ -1,7 +1,7 @@
 -- The plain functions of a program.
 use Rattle.std.specs.Prelude.{List, [], ◌∷◌}
 use Rattle.kern_syntax.specs.Tree.{Bytes, FunctionTree}
-use Rattle.kern_types.specs.Plain.{with_plain}
+use Rattle.kern_plain.specs.Plain.{with_plain}
 
 -- the names of the plain functions of a program, after those of earlier ones
 abbrev pub plain_names : (plain : List Bytes) → List FunctionTree → List Bytes

@@ -1,8 +1,8 @@
 use Rattle.std.proofs.Common.{[]}
 use Rattle.kern_syntax.specs.TreeOf.{tree_of}
-use Rattle.kern_types.specs.PlainFunctions.{plain_names}
-use Rattle.kern_types.proofs.PlainFunctions.{plain_step}
-use Rattle.kern_types.proofs.program.plain_functions.Goals as goal
+use Rattle.kern_plain.specs.PlainFunctions.{plain_names}
+use Rattle.kern_plain.proofs.PlainFunctions.{plain_step}
+use Rattle.kern_plain.proofs.functions.plain_functions.Goals as goal
 
 pub loop-function-preserved : goal.loop-function-preserved
 loop-function-preserved c =

@@ -1,0 +1,3 @@
+pub mod Branches
+pub mod PlainFunctions
+pub mod PlainNames
