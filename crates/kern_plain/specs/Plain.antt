@@ -8,7 +8,7 @@ use Rattle.kern_syntax.specs.Tree.{Bytes, Expression, element, group, unary, bin
 use Rattle.kern_calls.specs.declared.calls.Builtin.{Builtin}
 use Rattle.kern_calls.specs.declared.calls.Operation.{Operation}
 use Rattle.kern_calls.specs.Calls.{builtin_named, builtin_is_live, is_live, method_named}
-use Rattle.kern_expression_types.specs.Before.{is_in, with_member}
+pub use Rattle.kern_expression_types.specs.Before.{is_in, with_member}
 
 -- a call that may stand in a plain function: of a plain function, or not live
 abbrev pub is_plain_call : List Bytes → Bytes → Option Builtin → Bool
