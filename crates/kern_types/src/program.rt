@@ -1,6 +1,6 @@
 // The types of programs.
 
-ghost use Rattle.std.specs.Prelude.{◌≡◌, ◌+◌, List, ℕ, Some, codes, is_some, length, slice_get, take, IfOk, IfErr, OnOk};
+ghost use Rattle.std.specs.Prelude.{◌≡◌, ◌+◌, [], List, ℕ, Some, codes, is_some, length, slice_get, take, IfOk, IfErr, OnOk};
 ghost use Rattle.kern_syntax.specs.TreeOf.{function_of, tree_of};
 ghost use Rattle.kern_expression_types.specs.Answers.{Finds, Passes, IsMemory};
 ghost use Rattle.kern_expression_types.specs.Before.{is_in};
@@ -26,9 +26,26 @@ pub fn check_functions(alloc: Global, functions: &[Function]) -> Result<(), Type
     let all = names_of(alloc, functions)?;
     let mut callable = FunctionNumbers::new(alloc);
     let mut plain = NameList::new(alloc);
+    check_each(alloc, functions, &all, &mut callable, &mut plain)
+}
+
+// Checks one function after another, and then that there is a `main`. It owns none of the lists: dropping them on each
+// way out would be dear to prove.
+fn check_each(
+    alloc: Global,
+    functions: &[Function],
+    all: &NameList,
+    callable: &mut FunctionNumbers,
+    plain: &mut NameList,
+) -> Result<(), TypeEnd>
+    requires all_named { (name : List ℕ) → is_in all.now name ≡ is_some (function_named (tree_of functions.now) name) }
+    requires none_callable { callable.old ≡ [] }
+    requires none_plain { plain.old ≡ [] }
+    ensures { Passes result (program_verdict (tree_of functions.now)) }
+{
     for function in functions.iter() {
-        check_function(alloc, functions, &all, &mut callable, &plain, function)?;
-        note_plain(alloc, &mut plain, function)?;
+        check_function(alloc, functions, all, callable, plain, function)?;
+        note_plain(alloc, plain, function)?;
     }
     Ok(check_main(functions)?)
 }

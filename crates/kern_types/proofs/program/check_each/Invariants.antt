@@ -2,7 +2,7 @@ use Rattle.std.proofs.Common.{◌≡◌, take, drop, length}
 use Rattle.kern_syntax.specs.TreeOf.{tree_of}
 use Rattle.kern_expression_types.specs.Numbered.{numbered}
 use Rattle.kern_types.specs.Programs.{functions_verdict, program_verdict}
-use Rattle.kern_types.proofs.program.check_functions.Given as goal
+use Rattle.kern_types.proofs.program.check_each.Given as goal
 
 abbrev pub invariant-loop-function : goal.invariant-loop-function
 invariant-loop-function l =
