@@ -201,6 +201,40 @@ def main():
         "b = 0, out 0 0 1 at 0, d = -5, out 0 0 1 at 0, c = 2, a = 3, \
          Returned, cursor 0, units 90",
     ),
+    // Parentheses and `not`, within one another.
+    (
+        r#"
+def main():
+    for n in range(4):
+        if not (n > 1):
+            set_dataset("a", n)
+        elif not not (n == 2):
+            set_dataset("b", n)
+        elif (not (n >= 3)):
+            set_dataset("c", n)
+        else:
+            set_dataset("d", n)
+        even = n & 1 == 0
+        if not (not (even)):
+            ttl2.on()
+        if (not even):
+            ttl3.on()
+    k = 2
+    while not ((k == 0)):
+        ttl0.on()
+        k -= 1
+    while (not (not (k < 2))):
+        ttl1.on()
+        k += 1
+    while (even):
+        pass
+    while not (not even) or not (even or k > 0):
+        pass
+"#,
+        "a = 0, out 2 0 1 at 0, a = 1, out 3 0 1 at 0, b = 2, out 2 0 1 at 0, d = 3, \
+         out 3 0 1 at 0, out 0 0 1 at 0, out 0 0 1 at 0, out 1 0 1 at 0, out 1 0 1 at 0, \
+         Returned, cursor 0, units 80",
+    ),
 ];
 
 #[test]

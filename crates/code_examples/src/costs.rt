@@ -20,8 +20,8 @@ fn steps(rt: &impl Abort, alloc: Global, n: u32, body: &str) -> Result<u64, Fail
 
 // A `for` takes at most 11 instructions a turn beside its body, and a `while` 3 beside its condition and its body. A delay by
 // a literal takes 2, also by one below 0, a comparison of two names 3, and an addition of a literal to a name of 64 bits 4. A
-// condition whose opposite is asked takes what the opposite takes, a `while` then 2 a turn, and an `if` 1 where it holds. What
-// can't leave 32 bits isn't wrapped.
+// condition whose opposite is asked takes what the opposite takes, a `while` then 2 a turn, and an `if` 1 where it holds.
+// Parentheses and `not` in a condition take none. What can't leave 32 bits isn't wrapped.
 #[test]
 fn turns_take_few_instructions(rt: HostRuntime) -> Result<(), Fail> {
     let alloc = rt.alloc();
@@ -31,6 +31,19 @@ fn turns_take_few_instructions(rt: HostRuntime) -> Result<(), Fail> {
         ("    k = int64(0)\n    while k < n:\n        k += 1\n", 10),
         ("    k = int64(0)\n    while n > k:\n        k += 1\n", 9),
         ("    k = int64(0)\n    while k != n:\n        k += 1\n", 9),
+        ("    k = int64(0)\n    while (n > k):\n        k += 1\n", 9),
+        (
+            "    k = int64(0)\n    while not (k == n):\n        k += 1\n",
+            9,
+        ),
+        (
+            "    k = int64(0)\n    while not (k >= n):\n        k += 1\n",
+            10,
+        ),
+        (
+            "    k = int64(0)\n    while not not (n > k):\n        k += 1\n",
+            9,
+        ),
         (
             "    k = 9\n    for i in range(n):\n        k = k % 8\n        k = k & 7\n",
             19,
@@ -38,6 +51,14 @@ fn turns_take_few_instructions(rt: HostRuntime) -> Result<(), Fail> {
         (
             "    for i in range(n):\n        if not i == 99:\n            delay_mu(-5)\n",
             17,
+        ),
+        (
+            "    for i in range(n):\n        if not (i >= 99):\n            delay_mu(5)\n",
+            17,
+        ),
+        (
+            "    for i in range(n):\n        if (i >= 99):\n            delay_mu(5)\n",
+            16,
         ),
     ];
     for (body, bound) in table {

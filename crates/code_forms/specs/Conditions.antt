@@ -1,8 +1,9 @@
--- The condition of a branch or of a `while`: where its opposite takes fewer instructions, the opposite is asked in its place.
-use Rattle.std.specs.Prelude.{ℕ, ◌+◌, List, [], ◌∷◌, Bool, true, false}
+-- The condition of a branch or of a `while`: what stands behind its parentheses and each `not` is asked, and of a comparison the
+-- opposite where that takes fewer instructions.
+use Rattle.std.specs.Prelude.{ℕ, ◌+◌, List, [], ◌∷◌, Bool, true, false, not}
 use Rattle.kern_syntax.specs.declared.expression.Comparison.{Comparison}
 use Rattle.kern_syntax.specs.declared.expression.Comparison.TheVariants as C
-use Rattle.kern_syntax.specs.Tree.{Expression, compare, negation}
+use Rattle.kern_syntax.specs.Tree.{Expression, group, compare, negation}
 use Rattle.core_isa.specs.declared.instr.Instr.{Instr}
 use Rattle.core_isa.specs.declared.instr.Instr.TheVariants as I
 use Rattle.code_forms.specs.declared.test_kind.TestKind.{TestKind}
@@ -34,17 +35,49 @@ asked_comparison C.LessEqual test = C.LessEqual
 asked_comparison C.Greater test = C.LessEqual
 asked_comparison C.GreaterEqual test = C.Less
 
+-- the comparison that holds where this one doesn't
+abbrev pub opposite : Comparison → Comparison
+opposite C.Equal = C.NotEqual
+opposite C.NotEqual = C.Equal
+opposite C.Less = C.GreaterEqual
+opposite C.LessEqual = C.Greater
+opposite C.Greater = C.LessEqual
+opposite C.GreaterEqual = C.Less
+
+-- what stands behind the parentheses of a condition and each `not`
+abbrev pub bare : Expression → Expression
+bare (group e) = bare e
+bare (negation e) = bare e
+bare e = e
+
+-- whether the condition is the opposite of that
+abbrev pub is_contrary : Expression → Bool
+is_contrary (group e) = is_contrary e
+is_contrary (negation e) = not (is_contrary e)
+is_contrary e = false
+
+-- the comparison that is meant: this one, or its opposite where the contrary is meant
+abbrev pub meant : (contrary : Bool) → Comparison → Comparison
+meant false op = op
+meant true op = opposite op
+
+-- whether the opposite is asked for an expression that is bare, or for its contrary where that is meant
+abbrev pub is_turned_bare : TestKind → (contrary : Bool) → Expression → Bool
+is_turned_bare test contrary (compare op a b) = is_opposed (meant contrary op) test
+is_turned_bare test contrary e = contrary
+
+-- and what is asked
+abbrev pub asked_bare : TestKind → (contrary : Bool) → Expression → Expression
+asked_bare test contrary (compare op a b) = compare (asked_comparison (meant contrary op) test) a b
+asked_bare test contrary e = e
+
 -- whether a condition's opposite is asked
 abbrev pub is_turned : TestKind → Expression → Bool
-is_turned test (negation e) = true
-is_turned test (compare op a b) = is_opposed op test
-is_turned test e = false
+is_turned test e = is_turned_bare test (is_contrary e) (bare e)
 
 -- what is asked for a condition
 abbrev pub asked : TestKind → Expression → Expression
-asked test (negation e) = e
-asked test (compare op a b) = compare (asked_comparison op test) a b
-asked test e = e
+asked test e = asked_bare test (is_contrary e) (bare e)
 
 -- at a place, with the answer on the operands: goes on behind these where the condition holds, and elsewhere where it doesn't
 abbrev pub test_instrs : (turned : Bool) → (place elsewhere : ℕ) → List Instr

@@ -1,8 +1,9 @@
-// Conditions of branches and of `while`: where the opposite of a condition takes fewer instructions, it is asked in its place.
+// Conditions of branches and of `while`: what stands behind parentheses and each `not` is asked, and of a comparison the opposite
+// where that takes fewer instructions.
 
 ghost use Rattle.std.specs.Prelude.{◌≡◌, ◌+◌, ◌<◌, ◌^◌, ◌++◌, OnOk, length};
 ghost use Rattle.kern_syntax.specs.TreeOf.{expression_of};
-ghost use Rattle.code_forms.specs.Conditions.{asked, is_turned};
+ghost use Rattle.code_forms.specs.Conditions.{asked, bare, is_contrary, is_turned};
 ghost use Rattle.code_forms.specs.ExpressionCode.{expression_code};
 ghost use Rattle.code_forms.specs.Sizes.{expression_size};
 ghost use Rattle.code_ranges.specs.Ready.{IsReady};
@@ -13,20 +14,34 @@ use crate::sizes::expression_size;
 use code_forms::TestKind;
 use core_code_names::Setting;
 use core_code_operations::lines::raised;
-use core_code_operations::{asked_comparison, comparison_size, is_opposed, put_comparison};
+use core_code_operations::{asked_comparison, comparison_size, is_opposed, meant, put_comparison};
 use core_isa::{CodeLine, Mark};
 use kern_syntax::Expr;
 use std::alloc::AllocError;
 
-/// Whether the opposite of a condition is asked: that of `not`, and of a comparison whose opposite takes fewer instructions with the
-/// test at this place.
+/// Whether a condition is the opposite of what stands behind its parentheses and each `not`, and what stands there.
+fn bare(condition: &Expr) -> (bool, &Expr)
+    ensures contrary { result.0 ≡ is_contrary (expression_of condition.now) }
+    ensures behind { expression_of result.1.now ≡ bare (expression_of condition.now) }
+{
+    match condition {
+        Expr::Group(inner) => bare(inner),
+        Expr::Not(operand) => {
+            let (contrary, behind) = bare(operand);
+            (!contrary, behind)
+        }
+        _ => (false, condition),
+    }
+}
+
+/// Whether the opposite of a condition is asked, with the test at this place.
 pub fn is_turned(test: TestKind, condition: &Expr) -> bool
     ensures { result ≡ is_turned test (expression_of condition.now) }
 {
-    match condition {
-        Expr::Not(_) => true,
-        Expr::Compare(comparison, _, _) => is_opposed(*comparison, test),
-        _ => false,
+    let (contrary, behind) = bare(condition);
+    match behind {
+        Expr::Compare(comparison, _, _) => is_opposed(meant(contrary, *comparison), test),
+        _ => contrary,
     }
 }
 
@@ -35,14 +50,15 @@ pub fn asked_size(setting: &Setting<'_>, test: TestKind, condition: &Expr) -> u3
     requires { expression_size (setting_of setting.now) (asked test (expression_of condition.now)) < 2 ^ 32 }
     ensures { result ≡ expression_size (setting_of setting.now) (asked test (expression_of condition.now)) }
 {
-    match condition {
-        Expr::Not(operand) => expression_size(setting, operand).size,
+    let (contrary, behind) = bare(condition);
+    match behind {
         Expr::Compare(comparison, left, right) => {
+            let asked = asked_comparison(meant(contrary, *comparison), test);
             let left = expression_size(setting, left);
             let right = expression_size(setting, right);
-            left.size + right.size + comparison_size(asked_comparison(*comparison, test))
+            left.size + right.size + comparison_size(asked)
         }
-        _ => expression_size(setting, condition).size,
+        _ => expression_size(setting, behind).size,
     }
 }
 
@@ -61,18 +77,16 @@ pub fn put_asked(
     ensures longer { OnOk result (length lines.new.items ≡ length lines.old.items
         + expression_size (setting_of setting.now) (asked test (expression_of condition.now))) }
 {
-    match condition {
-        Expr::Not(operand) => {
-            put_expression(lines, setting, free, mark, operand)?;
-            Ok(())
-        }
+    let (contrary, behind) = bare(condition);
+    match behind {
         Expr::Compare(comparison, left, right) => {
+            let asked = asked_comparison(meant(contrary, *comparison), test);
             put_expression(lines, setting, free, mark, left)?;
             put_expression(lines, setting, free, raised(mark, 1), right)?;
-            put_comparison(lines, raised(mark, 2), asked_comparison(*comparison, test))
+            put_comparison(lines, raised(mark, 2), asked)
         }
         _ => {
-            put_expression(lines, setting, free, mark, condition)?;
+            put_expression(lines, setting, free, mark, behind)?;
             Ok(())
         }
     }

@@ -1,7 +1,7 @@
 // The tests of conditions, where a condition's opposite may be asked in its place.
 
 ghost use Rattle.std.specs.Prelude.{◌≡◌, ◌+◌, ◌<◌, ◌^◌, ◌++◌, OnOk, length};
-ghost use Rattle.code_forms.specs.Conditions.{asked_comparison, is_opposed, loop_instrs, loop_size, test_instrs, test_size};
+ghost use Rattle.code_forms.specs.Conditions.{asked_comparison, is_opposed, loop_instrs, loop_size, meant, test_instrs, test_size};
 ghost use Rattle.code_forms.specs.Lines.{straight};
 ghost use Rattle.core_code_lines.specs.Room.{HasRoom};
 
@@ -33,6 +33,23 @@ pub fn asked_comparison(comparison: Comparison, test: TestKind) -> Comparison
         (Comparison::Equal, TestKind::LoopEnd) => Comparison::NotEqual,
         (Comparison::NotEqual, TestKind::LoopEnd) => Comparison::Equal,
         _ => comparison,
+    }
+}
+
+/// The comparison that is meant: this one, or where the contrary is meant its opposite.
+pub fn meant(contrary: bool, comparison: Comparison) -> Comparison
+    ensures { result ≡ meant contrary comparison }
+{
+    if !contrary {
+        return comparison;
+    }
+    match comparison {
+        Comparison::Equal => Comparison::NotEqual,
+        Comparison::NotEqual => Comparison::Equal,
+        Comparison::Less => Comparison::GreaterEqual,
+        Comparison::LessEqual => Comparison::Greater,
+        Comparison::Greater => Comparison::LessEqual,
+        Comparison::GreaterEqual => Comparison::Less,
     }
 }
 

@@ -9,7 +9,9 @@ mod operators;
 
 pub use arguments::text_in;
 pub use calls::{Callee, callee_of};
-pub use conditions::{asked_comparison, is_opposed, loop_size, put_loop_test, put_test, test_size};
+pub use conditions::{
+    asked_comparison, is_opposed, loop_size, meant, put_loop_test, put_test, test_size,
+};
 /// How lines are put: expressions and statements do it in the same way.
 pub use core_code_lines as lines;
 pub use methods::{method_has_value, method_size, put_method_instrs};
