@@ -4,10 +4,11 @@
     python3 bench/gate.py --record LOG [WORD..]    runs `rt ci WORD..` and notes in LOG what each of its checks cost
     python3 bench/gate.py LOG..                    prints the table of such logs, and what is over its budget
 
-Run by hand. With the word --anew the whole gate is proved from nothing, and without it only what this machine has not
-kept. Times are of processors, user and system together, read twice a second from /proc: what a check used up after its
-last reading is missing, so a crate's numbers are low by a part of a second for each check. The last line of a log has
-the whole run as the system counts it, with the run's own work.
+Run by hand. Some kits keep what a gate passed: there the word --anew has the whole gate proved from nothing, and without
+it only what the machine has not kept. Other kits take no word, and prove all each time. Times are of processors, user
+and system together, read twice a second from /proc: what a check used up after its last reading is missing, so a crate's
+numbers are low by a part of a second for each check. The last line of a log has the whole run as the system counts it,
+with the run's own work.
 """
 
 import collections
