@@ -7,17 +7,33 @@ use Rattle.kern_syntax.specs.Tree.{Statement, Otherwise, if_then, for_range, rec
 use Rattle.kern_syntax.specs.TreeOf.{expression_of, block_of, statement_of, branches_of, elif_of, else_of, handlers_of}
 use Rattle.kern_expression_types.proofs.Lists.{drop-item}
 use Rattle.core_isa.specs.declared.instr.Instr.TheVariants as I
+use Rattle.code_forms.specs.declared.test_kind.TestKind.TheVariants.{Branch, LoopEnd}
 use Rattle.code_forms.specs.Lines.{line, straight}
 use Rattle.code_forms.specs.Setting.{index_of_text}
 use Rattle.code_forms.specs.Sizes.{statement_size, block_size}
 use Rattle.code_forms.specs.StatementCode.{for_goes_on, statement_code, handlers_code}
 use Rattle.code_ranges.specs.ReadyStatements.{StatementFits, OtherwiseFits}
+use Rattle.code_ranges.proofs.Asked.{asked_fits}
 use Rattle.core_code_names.specs.SettingOf.{setting_of}
 use Rattle.core_code_sizes.specs.Parts.{followed_size}
 use Rattle.core_code_simple.specs.InsideOf.{inside_of}
 use Rattle.core_code_statements.specs.Parts.{is_followed, followed_code, turns_code}
 use Rattle.core_code_statements.proofs.Forms.{on_ok, for_put, turns_put, record_put, try_put, if_put, elif_put, else_fits}
 use Rattle.core_code_statements.proofs.+statements.Goals as goal
+
+pub branches::put_branch-put_asked-requires : goal.branches::put_branch-put_asked-requires
+branches::put_branch-put_asked-requires t c =
+    record {
+      fits = asked_fits Branch c.args.inside.mark (expression_of c.args.condition.now) c.requires.condition;
+      places = omega (arith, c.requires.places);
+    }
+
+pub loops::put_while-put_asked-requires : goal.loops::put_while-put_asked-requires
+loops::put_while-put_asked-requires t c =
+    record {
+      fits = asked_fits LoopEnd c.args.inside.mark (expression_of c.args.condition.now) c.requires.fits.0;
+      places = omega (arith, c.requires.places, c.in_ok-put_all.ensures.longer, c.in_ok-put_block.ensures.longer);
+    }
 
 pub branches::put_branches-loop-index-preserved : goal.branches::put_branches-loop-index-preserved
 branches::put_branches-loop-index-preserved t c =
