@@ -1,3 +1,4 @@
 pub mod Branches
 pub mod PlainFunctions
+pub mod PlainLines
 pub mod PlainNames

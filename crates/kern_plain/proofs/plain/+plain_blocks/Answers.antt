@@ -1,12 +1,34 @@
 use Rattle.std.proofs.Common.{rules, ◌≡◌, ◌+◌, ◌++◌, [], ◌∷◌, true, false, None, drop, refl, ap, sym, ◌∙◌}
 use Rattle.kern_syntax.specs.declared.statement.StmtKind.TheFolds.{the_lemmas}
 use Rattle.kern_syntax.specs.Tree.{if_then}
-use Rattle.kern_syntax.specs.TreeOf.{expression_of, block_of, branches_of, elif_of, statement_of}
+use Rattle.kern_syntax.specs.TreeOf.{expression_of, block_of, line_of, lines_of, branches_of, elif_of, statement_of}
 use Rattle.kern_plain.specs.Plain.{is_plain_expression, is_plain_block, is_plain_otherwise, is_plain_statement}
 use Rattle.kern_expression_types.proofs.Lists.{drop-item}
+use Rattle.kern_plain.proofs.PlainLines.{line-plain, line-live}
 use Rattle.kern_plain.proofs.PlainNames.{branch-plain, branch-live, if-values}
 use Rattle.kern_plain.proofs.plain.+plain_blocks.Goals as goal
 use Rattle.kern_plain.proofs.plain.+plain_blocks.Goals.{is_plain_statement-then-is_plain_expression, is_plain_statement-else-is_plain_expression, is_plain_statement-then-is_plain_block, is_plain_statement-else-is_plain_block}
+
+pub is_plain_block-returns-then-not-is_plain_statement :
+    goal.is_plain_block-returns-then-not-is_plain_statement
+is_plain_block-returns-then-not-is_plain_statement t c =
+    let plain = c.args.plain.now ++ c.args.own.now ∷ [] in
+    let items = c.deref-statement-items.result.now in
+    let i = c.loop-statement.statement-index in
+    let item = c.statement-item.result in
+    let rest = lines_of (drop (i + 1) items) in
+    let next : lines_of (drop i items) ≡ line_of item rest = ap lines_of (drop-item items i item c.loop-statement-test.true c.statement-item.is) in
+    line-live plain item rest _ (c.loop-statement.invariant ∙ ap (is_plain_block plain) next) (sym c.is_plain_statement.ensures ∙ c.if-not-is_plain_statement.true)
+
+pub is_plain_block-loop-statement-preserved : goal.is_plain_block-loop-statement-preserved
+is_plain_block-loop-statement-preserved t c =
+    let plain = c.args.plain.now ++ c.args.own.now ∷ [] in
+    let items = c.deref-statement-items.result.now in
+    let i = c.loop-statement.statement-index in
+    let item = c.statement-item.result in
+    let rest = lines_of (drop (i + 1) items) in
+    let next : lines_of (drop i items) ≡ line_of item rest = ap lines_of (drop-item items i item c.loop-statement-test.true c.statement-item.is) in
+    line-plain plain item rest _ (c.loop-statement.invariant ∙ ap (is_plain_block plain) next) (sym c.is_plain_statement.ensures ∙ c.if-not-is_plain_statement.false)
 
 pub are_plain_branches-returns-then-not-is_plain_elif :
     goal.are_plain_branches-returns-then-not-is_plain_elif

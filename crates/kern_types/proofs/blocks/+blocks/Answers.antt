@@ -2,12 +2,13 @@ use Rattle.std.proofs.Common.{rules, ◌≡◌, ◌+◌, None, drop, ap, subst, 
 use Rattle.std.proofs.lemmas.Result.{err_from_is_err_and}
 use Rattle.kern_syntax.specs.declared.statement.StmtKind.TheFolds.{the_lemmas}
 use Rattle.kern_syntax.specs.Tree.{for_range, if_then}
-use Rattle.kern_syntax.specs.TreeOf.{expression_of, block_of, branches_of, elif_of, statement_of}
+use Rattle.kern_syntax.specs.TreeOf.{expression_of, block_of, line_of, lines_of, branches_of, elif_of, statement_of}
 use Rattle.kern_expression_types.specs.Answers.{Leaves, IsEndOf}
 use Rattle.kern_expression_types.specs.KnownOf.{functions_of}
-use Rattle.kern_types.specs.Statements.{block_verdict, branches_verdict, inside_loop, loop_verdict, statement_verdict}
+use Rattle.kern_types.specs.Statements.{at_line, block_verdict, branches_verdict, inside_loop, loop_verdict, statement_verdict}
 use Rattle.kern_expression_types.specs.Verdicts.{well}
 use Rattle.kern_types.proofs.Branches.{leaves-same, leaves-then, branch-read, branch-ended, if-ended, if-then}
+use Rattle.kern_types.proofs.Lines.{line-read, line-ended}
 use Rattle.kern_expression_types.proofs.Lists.{drop-item}
 use Rattle.kern_types.proofs.blocks.+blocks.Goals as goal
 
@@ -80,3 +81,30 @@ check_statement-returns-in_ok-check_loop_to-in-ForTo t c =
     let header : loop_verdict functions place names arm.x None (expression_of arm.to) ≡ well after = ap (λ x. loop_verdict functions place names x None (expression_of arm.to)) (sym c.bytes.ensures) ∙ c.in_ok-check_loop_to-in-ForTo.ensures in
     let body : Leaves r left (block_verdict functions (block_of arm.body) (inside_loop place) after) = leaves-same r left _ _ (ap (λ p. block_verdict functions (block_of arm.body) p after) c.inside_loop-in-ForTo.ensures) c.check_block-in-ForTo.ensures in
     leaves-same r left _ _ (ap (λ s. statement_verdict functions s place names) (sym tree)) (leaves-then r left (loop_verdict functions place names arm.x None (expression_of arm.to)) after (λ after. block_verdict functions (block_of arm.body) (inside_loop place) after) header body)
+
+pub check_block-returns-in_err-check_statement : goal.check_block-returns-in_err-check_statement
+check_block-returns-in_err-check_statement t c =
+    let functions = functions_of c.args.known.now in
+    let place = c.args.place in
+    let names = c.loop-statement.names in
+    let items = c.deref-statement-items.result.now in
+    let i = c.loop-statement.statement-index in
+    let item = c.statement-item.result in
+    let end = c.in_err-check_statement.field-0.0 in
+    let next : lines_of (drop i items) ≡ line_of item (lines_of (drop (i + 1) items)) = ap lines_of (drop-item items i item c.loop-statement-test.true c.statement-item.is) in
+    let ended : IsEndOf end (statement_verdict functions (statement_of item.kind) (at_line place item.line) names) = subst (λ p. IsEndOf end (statement_verdict functions (statement_of item.kind) p names)) c.at_line-place.ensures c.in_err-check_statement.ensures in
+    let whole = line-ended functions place end names item (lines_of (drop (i + 1) items)) _ (c.loop-statement.invariant ∙ ap (λ lines. block_verdict functions lines place names) next) ended in
+    let p = err_from_is_err_and c.from_residual.result c.from_residual.ensures.1 in
+    rw (p.1, p.2) whole
+
+pub check_block-loop-statement-preserved : goal.check_block-loop-statement-preserved
+check_block-loop-statement-preserved t c =
+    let functions = functions_of c.args.known.now in
+    let place = c.args.place in
+    let names = c.loop-statement.names in
+    let items = c.deref-statement-items.result.now in
+    let i = c.loop-statement.statement-index in
+    let item = c.statement-item.result in
+    let next : lines_of (drop i items) ≡ line_of item (lines_of (drop (i + 1) items)) = ap lines_of (drop-item items i item c.loop-statement-test.true c.statement-item.is) in
+    let read : statement_verdict functions (statement_of item.kind) (at_line place item.line) names ≡ well c.check_statement.new.names = ap (λ p. statement_verdict functions (statement_of item.kind) p names) (sym c.at_line-place.ensures) ∙ c.in_ok-check_statement.ensures in
+    line-read functions place names c.check_statement.new.names item (lines_of (drop (i + 1) items)) _ (c.loop-statement.invariant ∙ ap (λ lines. block_verdict functions lines place names) next) read
