@@ -1,5 +1,5 @@
 -- Functions that are put, and those that are left.
-use Rattle.std.proofs.Common.{◌≡◌, ℕ, zero, suc, ◌+◌, ◌<◌, List, [], ◌∷◌, ◌++◌, length, take, drop, get_or, slice_get, Some, refl, sym, ◌∙◌, ap, subst, arith, append_assoc, append-nil, length-append}
+use Rattle.std.proofs.Common.{◌≡◌, ℕ, suc, ◌+◌, ◌<◌, List, [], ◌∷◌, ◌++◌, length, take, drop, get_or, slice_get, Some, refl, sym, ◌∙◌, ap, subst, arith, append_assoc, append-nil, length-append}
 use Rattle.kern_syntax.specs.declared.program.Function.{Function}
 use Rattle.kern_syntax.specs.Tree.{Bytes, FunctionTree, ProgramTree}
 use Rattle.kern_syntax.specs.TreeOf.{function_of, tree_of}

@@ -2,9 +2,9 @@
 
 ghost use Rattle.std.specs.Prelude.{◌≡◌, ◌∷◌, false, true, map, IfErr, IfOk};
 ghost use Rattle.kern_grammar.specs.BlockPlans.{a_parameter, comma_parameter, def_plan, function_block, function_plan, is_comma, parameters_plan, result_plan};
-ghost use Rattle.kern_parser.specs.FunctionSteps.{NeedsBeginning, behind_at_plan, defined_plan, further_plan, maybe_parameters_plan, opens_function};
+ghost use Rattle.kern_parser.specs.FunctionSteps.{NeedsBeginning, behind_at_plan, defined_plan, defines, further_plan, maybe_parameters_plan, names_kernel, opens_function};
 ghost use Rattle.kern_grammar.specs.Plans.{done, many, run, token};
-ghost use Rattle.kern_expressions.specs.TakenBy.{GivesTaken, begins_with, lexemes_left, perform};
+ghost use Rattle.kern_expressions.specs.TakenBy.{GivesTaken, lexemes_left, perform};
 ghost use Rattle.kern_grammar.specs.Views.{arrow_or_colon};
 ghost use Rattle.kern_syntax.specs.TreeOf.{function_of, parameter_of};
 
@@ -27,7 +27,7 @@ pub fn function_at<'a>(
     tokens: Tokens<'a>,
 ) -> Result<(Function, Tokens<'a>), ReadEnd<'a>>
     ensures taken { GivesTaken function_of result (run function_plan (lexemes_left tokens.entry)) }
-    ensures memory { IfErr result (NeedsBeginning (begins_with opens_function (lexemes_left tokens.entry))) }
+    ensures memory { IfErr result (NeedsBeginning (opens_function (lexemes_left tokens.entry))) }
 {
     decorated_at(alloc, tokens)
 }
@@ -38,7 +38,7 @@ fn decorated_at<'a>(
     tokens: Tokens<'a>,
 ) -> Result<(Function, Tokens<'a>), ReadEnd<'a>>
     ensures taken { GivesTaken function_of result (perform function_plan (lexemes_left tokens.entry)) }
-    ensures memory { IfErr result (NeedsBeginning (begins_with opens_function (lexemes_left tokens.entry))) }
+    ensures memory { IfErr result (NeedsBeginning (opens_function (lexemes_left tokens.entry))) }
 {
     match tokens.list {
         [] => Err(ReadEnd::Fault(tokens)),
@@ -57,7 +57,8 @@ fn behind_at_sign<'a>(
     alloc: Global,
     tokens: Tokens<'a>,
 ) -> Result<(Function, Tokens<'a>), ReadEnd<'a>>
-    ensures { GivesTaken function_of result (perform behind_at_plan (lexemes_left tokens.entry)) }
+    ensures taken { GivesTaken function_of result (perform behind_at_plan (lexemes_left tokens.entry)) }
+    ensures memory { IfErr result (NeedsBeginning (names_kernel (lexemes_left tokens.entry))) }
 {
     let rest = word_at(b"kernel", tokens)?;
     let rest = line_end_at(rest)?;
@@ -70,7 +71,7 @@ fn definition_at<'a>(
     tokens: Tokens<'a>,
 ) -> Result<(Function, Tokens<'a>), ReadEnd<'a>>
     ensures taken { GivesTaken function_of result (perform def_plan (lexemes_left tokens.entry)) }
-    ensures memory { IfErr result (NeedsBeginning (begins_with opens_function (lexemes_left tokens.entry))) }
+    ensures memory { IfErr result (NeedsBeginning (defines (lexemes_left tokens.entry))) }
 {
     match tokens.list {
         [] => Err(ReadEnd::Fault(tokens)),
@@ -85,7 +86,7 @@ fn defined_at<'a>(
     tokens: Tokens<'a>,
 ) -> Result<(Function, Tokens<'a>), ReadEnd<'a>>
     ensures taken { GivesTaken function_of result (perform (defined_plan line) (lexemes_left tokens.entry)) }
-    ensures memory { IfErr result (NeedsBeginning (begins_with opens_function (lexemes_left tokens.entry))) }
+    ensures memory { IfErr result (NeedsBeginning (defines (lexemes_left tokens.entry))) }
 {
     let rest = def_at(tokens)?;
     let (name, rest) = name_at(alloc, rest)?;

@@ -21,7 +21,7 @@ pub fn program_at<'a>(
     tokens: Tokens<'a>,
 ) -> Result<(Program, Tokens<'a>), ReadEnd<'a>>
     ensures taken { GivesTaken tree_of result (run program_plan (lexemes_left tokens.entry)) }
-    ensures memory { IfErr result (NeedsBeginning (begins_with opens_function (lexemes_left tokens.entry))) }
+    ensures memory { IfErr result (NeedsBeginning (opens_function (lexemes_left tokens.entry))) }
 {
     let (first, rest) = function_at(alloc, tokens)?;
     let (functions, rest) = functions_at(alloc, first, rest)?;

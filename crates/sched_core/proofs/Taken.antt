@@ -1,6 +1,6 @@
 -- A scheduler whose clock moved on, and which gave out a job.
-use Rattle.std.proofs.Common.{◌≡◌, ◌≢◌, ℕ, ◌+◌, ◌<◌, ◌≤◌, List, [], ◌∷◌, ◌++◌, length, refl, sym, ◌∙◌, ap, arith, subst}
-use Rattle.std.specs.Prelude.{ℤ, Option, Some, None, Vec, IsSome, IsTrue, slice_get, slice_set, vec_len, vec_capacity}
+use Rattle.std.proofs.Common.{◌≡◌, ℕ, ◌<◌, ◌≤◌, List, [], ◌∷◌, ◌++◌, length, refl, sym, ◌∙◌, ap, subst}
+use Rattle.std.specs.Prelude.{ℤ, Option, Some, None, Vec, IsSome, vec_len, vec_capacity}
 use Rattle.std.specs.declared.alloc.Global.{Global}
 use Rattle.std.proofs.lemmas.List.Sums.{fold-append}
 use Rattle.exp_runs.specs.declared.run.Run.{Run}
@@ -27,7 +27,7 @@ use Rattle.sched_core.specs.declared.answer.Job.TheVariants as given
 use Rattle.sched_core.specs.Calls.{HandedOut, HandsOut, IsJobFor, entry_of, jumps}
 use Rattle.sched_core.specs.Inside.{AreKits, IsSchedInside}
 use Rattle.sched_core.specs.Jumps.{JumpsTo}
-use Rattle.sched_core.specs.Scheds.{IsKitFor, source_of_run}
+use Rattle.sched_core.specs.Scheds.{source_of_run}
 use Rattle.sched_core.proofs.Halted.{lawful-push, state-push}
 use Rattle.sched_laws.proofs.Lookups.{found-has}
 use Rattle.sched_core.proofs.Due.{due-found, due-step, due-within}

@@ -1,18 +1,17 @@
 -- Chair 0 took each job, so it may report each.
 use Rattle.std.proofs.Common.{◌≡◌, ℕ, List, [], ◌∷◌, ◌++◌, refl, sym, subst}
-use Rattle.std.specs.Prelude.{Option, Some, None, Result, Ok, Err, IfOk, OnErr}
+use Rattle.std.specs.Prelude.{Result, Ok, Err, IfOk, OnErr}
 use Rattle.std.specs.List.{All}
 use Rattle.std.proofs.lemmas.List.Elements.{All-append, All-cons, All-head, All-nil, All-push, All-tail}
 use Rattle.sched_state.specs.declared.entry.JobName.{JobName}
 use Rattle.sched_state.specs.declared.entry.SchedAct.{SchedAct}
 use Rattle.sched_state.specs.declared.entry.SchedAct.TheVariants as act
 use Rattle.sched_state.specs.declared.entry.SchedEntry.{SchedEntry}
-use Rattle.sched_state.specs.Lawful.{halted_by}
 use Rattle.sched_laws.specs.Ladder.{takes}
 use Rattle.sched_laws.proofs.Holding.{fly-until-reported}
 use Rattle.sched_core.specs.declared.answer.Next.{Next}
 use Rattle.sched_core.specs.declared.answer.Next.TheVariants as next
-use Rattle.sched_core.specs.Calls.{AnswersNext, TookIt, entry_of, jumped, jumps, name_of, stopped, unless_halted, with_entry}
+use Rattle.sched_core.specs.Calls.{AnswersNext, TookIt, entry_of, jumped, jumps, name_of, with_entry}
 use Rattle.sched_core.specs.Scheds.{IsSched, SchedValue, sched_state}
 use Rattle.sched_driver.specs.declared.token.Token.{Token}
 use Rattle.sched_driver.specs.Drivers.{IsOwn, IsTakenBy0}

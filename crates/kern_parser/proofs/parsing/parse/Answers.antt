@@ -9,14 +9,14 @@ use Rattle.kern_syntax.specs.TreeOf.{tree_of}
 use Rattle.kern_grammar.specs.Accepted.{IsFirstFault}
 use Rattle.kern_grammar.specs.BlockPlans.{program_plan}
 use Rattle.kern_grammar.specs.Plans.{run}
-use Rattle.kern_expressions.specs.TakenBy.{IsTakenEnd, begins_with, lexemes_left}
+use Rattle.kern_expressions.specs.TakenBy.{IsTakenEnd, lexemes_left}
 use Rattle.kern_expressions.specs.declared.tokens.Tokens.{Tokens}
 use Rattle.kern_grammar.proofs.FirstFaults.{no_fault, one_fault}
 use Rattle.kern_grammar.proofs.ParseExits.{lexed-spelled, lexed-spellable, lexed-ended, read-lexed, fault-there, left-within, not-both}
 use Rattle.kern_grammar.proofs.ProgramReads
 use Rattle.kern_parser.specs.FunctionSteps.{NeedsBeginning, opens_function}
 use Rattle.kern_parser.specs.declared.parsing.SyntaxEnd.TheVariants as E
-use Rattle.kern_parser.proofs.Beginnings.{no_fault_at_start}
+use Rattle.kern_parser.proofs.Beginnings.{no_fault_up_to_def}
 use Rattle.kern_parser.proofs.parsing.parse.Goals as goal
 
 -- where the code stopped is the first fault
@@ -88,20 +88,20 @@ returns-in-Ok-clause-refused c = λ place f.
     no_fault (lexemes_of c.args.bytes.now c.args.tokens.now) (tree_of c.in-Ok.program) place tree f
 
 pub returns-in-Ok-clause-early : goal.returns-in-Ok-clause-early
-returns-in-Ok-clause-early c = λ f.
+returns-in-Ok-clause-early c = λ place low f.
     let ends_once = c.tokens_end_once.ensures c.args.bytes.now c.args.tokens.now c.requires.lexed in
     let tree = read-lexed c.args.bytes.now c.args.tokens.now ends_once (tree_of c.in-Ok.program) _ (ap (run program_plan) (sym c.of.ensures) ∙ c.in-Ok.ensures.taken) in
-    absurd (no_fault (lexemes_of c.args.bytes.now c.args.tokens.now) (tree_of c.in-Ok.program) 0 tree f)
+    absurd (no_fault (lexemes_of c.args.bytes.now c.args.tokens.now) (tree_of c.in-Ok.program) place tree f)
 
 pub returns-in-Err-Fault-clause-refused : goal.returns-in-Err-Fault-clause-refused
 returns-in-Err-Fault-clause-refused c = λ place f.
     fault_is_there c.args.bytes.now c.args.tokens.now c.in-Err-Fault.left (c.tokens_end_once.ensures c.args.bytes.now c.args.tokens.now c.requires.lexed) (ap (run program_plan) (sym c.of.ensures) ∙ subst (λ e. IsTakenEnd e (run program_plan (lexemes_left c.of.result))) c.in-Err-Fault.field-0-is c.in-Err-Fault.ensures.taken) place f
 
 pub returns-in-Err-Fault-clause-early : goal.returns-in-Err-Fault-clause-early
-returns-in-Err-Fault-clause-early c = λ f.
-    ap (λ n. Err (E.Fault n)) (fault_is_there c.args.bytes.now c.args.tokens.now c.in-Err-Fault.left (c.tokens_end_once.ensures c.args.bytes.now c.args.tokens.now c.requires.lexed) (ap (run program_plan) (sym c.of.ensures) ∙ subst (λ e. IsTakenEnd e (run program_plan (lexemes_left c.of.result))) c.in-Err-Fault.field-0-is c.in-Err-Fault.ensures.taken) 0 f)
+returns-in-Err-Fault-clause-early c = λ place low f.
+    ap (λ n. Err (E.Fault n)) (fault_is_there c.args.bytes.now c.args.tokens.now c.in-Err-Fault.left (c.tokens_end_once.ensures c.args.bytes.now c.args.tokens.now c.requires.lexed) (ap (run program_plan) (sym c.of.ensures) ∙ subst (λ e. IsTakenEnd e (run program_plan (lexemes_left c.of.result))) c.in-Err-Fault.field-0-is c.in-Err-Fault.ensures.taken) place f)
 
 pub returns-in-Err-Memory-clause-early : goal.returns-in-Err-Memory-clause-early
-returns-in-Err-Memory-clause-early c = λ f.
-    let begins = ap (begins_with opens_function) (sym c.of.ensures) ∙ subst (NeedsBeginning (begins_with opens_function (lexemes_left c.of.result))) c.in-Err-Memory.field-0-is c.in-Err-Memory.ensures.memory in
-    absurd (no_fault_at_start (lexemes_of c.args.bytes.now c.args.tokens.now) begins f)
+returns-in-Err-Memory-clause-early c = λ place low f.
+    let begins = ap opens_function (sym c.of.ensures) ∙ subst (NeedsBeginning (opens_function (lexemes_left c.of.result))) c.in-Err-Memory.field-0-is c.in-Err-Memory.ensures.memory in
+    absurd (no_fault_up_to_def (lexemes_of c.args.bytes.now c.args.tokens.now) begins place low f)

@@ -1,10 +1,8 @@
-use Rattle.std.proofs.Common.{◌≡◌, ◌<◌, ◌≤◌, ◌-◌, ◌^◌, ℕ, List, [], ◌∷◌, ◌++◌, drop, length, ap, refl, sym, ◌∙◌, subst, arith}
-use Rattle.std.specs.Prelude.{IsTrue}
+use Rattle.std.proofs.Common.{◌≡◌, ℕ, List, [], drop, length, ap, sym, ◌∙◌, subst, arith}
 use Rattle.std.specs.List.{AllByRecursion}
 use Rattle.exp_model.specs.declared.arrival.Arrival.{Arrival}
 use Rattle.dataset_db.specs.Datasets.{Dataset}
 use Rattle.sched_state.specs.declared.looking.Look.{Look}
-use Rattle.sched_state.specs.declared.looking.Look.TheVariants.{Jump}
 use Rattle.sched_state.specs.State.{SchedState}
 use Rattle.sched_state.specs.Arrivals.{at_clock}
 use Rattle.sched_state.specs.Boards.{IsActFor, state_of, state_with}

@@ -1,11 +1,10 @@
-use Rattle.std.proofs.Common.{◌≡◌, ℕ, List, [], length, replicate, ap, refl, sym, ◌∙◌, subst, arith}
-use Rattle.std.specs.Prelude.{None, IsTrue}
+use Rattle.std.proofs.Common.{◌≡◌, List, [], length, ap, sym, ◌∙◌, subst, arith}
+use Rattle.std.specs.Prelude.{IsTrue}
 use Rattle.exp_model.specs.declared.session.Session.{Session}
 use Rattle.sched_state.specs.declared.entry.SchedEntry.{SchedEntry}
 use Rattle.dataset_db.specs.Datasets.{Dataset}
 use Rattle.sched_state.specs.State.{SchedState}
 use Rattle.sched_state.specs.Boards.{state_of}
-use Rattle.sched_state.specs.Arrivals.{opening}
 use Rattle.exp_model.specs.Sessions.{is_session}
 use Rattle.sched_state.specs.Lawful.{IsLawful, state_after, halted_by}
 use Rattle.sched_core.specs.Inside.{AreKits}

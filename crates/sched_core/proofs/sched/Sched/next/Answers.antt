@@ -1,28 +1,19 @@
-use Rattle.std.proofs.Common.{◌≡◌, ◌++◌, ℕ, List, [], ap, length, refl, sym, ◌∙◌, subst}
-use Rattle.std.specs.Prelude.{Option, Some, None, IsTrue}
-use Rattle.exp_runs.specs.declared.run.Run.{Run}
-use Rattle.exp_model.specs.declared.step.HostStep.{HostStep}
-use Rattle.dataset_db.specs.Datasets.{Dataset}
-use Rattle.sched_state.specs.declared.entry.JobName.{JobName}
-use Rattle.sched_state.specs.declared.entry.JobName.TheVariants.{Prepare, Step}
-use Rattle.sched_state.specs.declared.entry.SchedAct.TheVariants as act
+use Rattle.std.proofs.Common.{◌≡◌, ◌++◌, ap, refl, sym, ◌∙◌, subst}
+use Rattle.std.specs.Prelude.{Some, None}
 use Rattle.sched_state.specs.State.{SchedState}
 use Rattle.sched_state.specs.Picks.{is_over, pick}
 use Rattle.sched_state.specs.Lawful.{halted_by, state_after}
 use Rattle.sched_state.specs.Boards.{state_of}
-use Rattle.sched_core.specs.declared.answer.Job.TheVariants as given
-use Rattle.sched_core.specs.Calls.{HandsOut, IsJobFor, jumped, jumps, with_entry}
-use Rattle.sched_core.specs.Jumps.{JumpsTo}
+use Rattle.sched_core.specs.Calls.{jumped, jumps}
 use Rattle.sched_core.specs.Scheds.{SchedValue, sched_state}
 use Rattle.std.specs.Prelude.{true, false}
 use Rattle.sched_state.specs.declared.looking.Look.{Look}
-use Rattle.sched_state.specs.declared.looking.Look.TheVariants.{Due, Jump, Over, Stuck, Wait}
 use Rattle.sched_state.specs.Looks.{LooksAs}
 use Rattle.sched_laws.specs.Sound.{IsSound}
 use Rattle.sched_laws.proofs.Histories.{sound-after}
 use Rattle.sched_laws.proofs.Never.{never-stuck}
 use Rattle.sched_core.specs.Calls.{IsAnyFlying}
-use Rattle.sched_core.proofs.Taken.{here-state, looked-after, looked-busy, looked-there}
+use Rattle.sched_core.proofs.Taken.{looked-after, looked-busy, looked-there}
 use Rattle.sched_core.proofs.sched.Sched.next.Goals as goal
 
 pub look_ahead-requires-clause-sound : goal.look_ahead-requires-clause-sound

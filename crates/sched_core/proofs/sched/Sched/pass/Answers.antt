@@ -1,12 +1,9 @@
-use Rattle.std.proofs.Common.{◌≡◌, ◌≤◌, ◌+◌, ◌∷◌, ◌++◌, [], ℕ, List, ap, arith, drop, length, sym, ◌∙◌, subst}
-use Rattle.std.specs.Prelude.{Some, None}
-use Rattle.dataset_db.specs.Datasets.{Dataset}
-use Rattle.sched_state.specs.declared.entry.SchedAct.TheVariants as act
+use Rattle.std.proofs.Common.{◌≡◌, ◌≤◌, ◌++◌, ℕ, List, ap, arith, length, sym, ◌∙◌, subst}
+use Rattle.std.specs.Prelude.{None}
 use Rattle.sched_state.specs.declared.entry.SchedEntry.{SchedEntry}
-use Rattle.sched_state.specs.Picks.{pick}
 use Rattle.sched_state.specs.Lawful.{halted_by}
-use Rattle.sched_state.specs.Boards.{state_of, state_with}
-use Rattle.sched_core.specs.Calls.{HandsOut, entry_of, jumps}
+use Rattle.sched_state.specs.Boards.{state_of}
+use Rattle.sched_core.specs.Calls.{jumps}
 use Rattle.sched_core.specs.Jumps.{JumpsTo}
 use Rattle.sched_core.specs.Scheds.{SchedValue, sched_state}
 use Rattle.sched_core.proofs.Taken.{entries-kept, pass-keeps}

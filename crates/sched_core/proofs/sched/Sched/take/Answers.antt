@@ -1,17 +1,12 @@
-use Rattle.std.proofs.Common.{◌≡◌, ◌++◌, ℕ, List, [], ap, length, refl, sym, ◌∙◌, subst}
-use Rattle.std.specs.Prelude.{Option, Some, None, IsTrue}
-use Rattle.exp_runs.specs.declared.run.Run.{Run}
-use Rattle.exp_model.specs.declared.step.HostStep.{HostStep}
-use Rattle.dataset_db.specs.Datasets.{Dataset}
+use Rattle.std.proofs.Common.{◌≡◌, ◌++◌, sym, ◌∙◌, subst}
+use Rattle.std.specs.Prelude.{Option, Some, None}
 use Rattle.sched_state.specs.declared.entry.JobName.{JobName}
 use Rattle.sched_state.specs.declared.entry.JobName.TheVariants.{Prepare, Step}
-use Rattle.sched_state.specs.declared.entry.SchedAct.TheVariants as act
-use Rattle.sched_state.specs.State.{SchedState}
-use Rattle.sched_state.specs.Picks.{is_over, pick}
+use Rattle.sched_state.specs.Picks.{pick}
 use Rattle.sched_state.specs.Lawful.{halted_by, state_after}
 use Rattle.sched_state.specs.Boards.{state_of}
 use Rattle.sched_core.specs.declared.answer.Job.TheVariants as given
-use Rattle.sched_core.specs.Calls.{HandsOut, IsJobFor, jumped, jumps, with_entry}
+use Rattle.sched_core.specs.Calls.{HandsOut, IsJobFor, jumps}
 use Rattle.sched_core.specs.Jumps.{JumpsTo}
 use Rattle.sched_core.specs.Scheds.{SchedValue, sched_state}
 use Rattle.sched_core.proofs.Taken.{prepare-for, step-for, step-there}

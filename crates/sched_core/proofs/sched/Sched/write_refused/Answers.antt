@@ -1,20 +1,14 @@
-use Rattle.std.proofs.Common.{◌≡◌, ◌∷◌, ◌++◌, ℕ, Bool, true, List, [], ap, arith, drop, refl, sym, ◌∙◌, subst}
-use Rattle.std.specs.Prelude.{Option, Some, IsSome}
-use Rattle.std.specs.List.{list_any}
-use Rattle.exp_runs.specs.declared.run.Run.{Run}
-use Rattle.exp_runs.specs.declared.run.Status.TheVariants as status
+use Rattle.std.proofs.Common.{◌≡◌, ◌∷◌, ◌++◌, ℕ, List, [], ap, arith, drop, refl, sym, ◌∙◌, subst}
+use Rattle.std.specs.Prelude.{Some}
 use Rattle.exp_runs.specs.Keys.{run_of}
-use Rattle.exp_model.specs.declared.session.Experiment.{Experiment}
-use Rattle.dataset_db.specs.Datasets.{Dataset}
-use Rattle.sched_state.specs.declared.entry.Flight.{Flight}
 use Rattle.sched_state.specs.declared.entry.JobName.TheVariants as name
 use Rattle.sched_state.specs.declared.entry.SchedAct.TheVariants as act
 use Rattle.sched_state.specs.declared.entry.SchedEntry.{SchedEntry}
 use Rattle.sched_state.specs.State.{SchedState}
 use Rattle.sched_state.specs.Reports.{refused}
 use Rattle.sched_state.specs.Lawful.{IsFlying, state_after}
-use Rattle.sched_state.specs.Boards.{staged_by, state_with}
-use Rattle.sched_core.specs.Calls.{HasJob, entry_of, same_job, with_entry}
+use Rattle.sched_state.specs.Boards.{state_with}
+use Rattle.sched_core.specs.Calls.{entry_of}
 use Rattle.sched_core.specs.Scheds.{SchedValue, sched_state}
 use Rattle.sched_state.proofs.Numbers.{numbered-after}
 use Rattle.sched_laws.proofs.Stays.{Stays, stays-here, stays-stable}
