@@ -14,10 +14,10 @@ use Rattle.sched_state.specs.Picks.{is_over}
 use Rattle.sched_laws.specs.Workers.{FlyingJobsStand, OverStays}
 use Rattle.sched_core.specs.Booked.{booked_acts as booked_sched}
 use Rattle.sched_core.specs.Scheds.{SchedValue}
-use Rattle.lab_ties.specs.Acts.{sched_acts}
-use Rattle.lab_ties.specs.Finished.{IsFinishedSched}
-use Rattle.lab_ties.specs.Judged.{IsJudged}
-use Rattle.lab_ties.specs.Laws.{JudgementsLast}
+use Rattle.lab_workers.specs.Acts.{sched_acts}
+use Rattle.lab_workers.specs.Finished.{IsFinishedSched}
+use Rattle.lab_workers.specs.Judged.{IsJudged}
+use Rattle.lab_workers.specs.Laws.{JudgementsLast}
 use Rattle.lab_workers.specs.declared.desks.Desks.{Desks}
 use Rattle.lab_workers.specs.Workers.{SchedChair, WorkerValue, is_halt, sched_entries}
 use Rattle.lab_workers.proofs.Entries.{sched-further}

@@ -11,7 +11,7 @@ use Rattle.desk.proofs.Seating.{length-new_chairs}
 use Rattle.rtio_core.specs.Entries.{open_session}
 use Rattle.rtio_core.specs.declared.data.Config.{Config}
 use Rattle.sched_state.specs.declared.entry.SchedAct.{SchedAct}
-use Rattle.lab_ties.proofs.Beginning.{tied-empty}
+use Rattle.lab_workers.proofs.Beginning.{tied-empty}
 use Rattle.desk_kernels.specs.Chairs.{CoreChair, KnowsItsOwn, core_entries}
 use Rattle.lab_workers.specs.declared.desks.Desks.{Desks}
 use Rattle.lab_workers.specs.Workers.{AreDesksOf, IsAtRest, IsTiedAt, IsWorkerAt, SchedChair, WorkerValue, halts}

@@ -20,12 +20,12 @@ use Rattle.sched_state.specs.declared.entry.SchedAct.{SchedAct}
 use Rattle.sched_state.specs.declared.entry.SchedEntry.{SchedEntry}
 use Rattle.sched_laws.specs.Workers.{FlyingJobsStand, OverStays}
 use Rattle.sched_core.specs.Scheds.{SchedValue}
-use Rattle.lab_ties.specs.Acts.{core_acts, sched_acts}
-use Rattle.lab_ties.specs.Finished.{IsFinished, IsFinishedCore}
-use Rattle.lab_ties.specs.Laws.{JudgementsLast, TiesLast}
-use Rattle.lab_ties.specs.Settings.{config_at}
-use Rattle.lab_ties.specs.Ties.{AreTied}
-use Rattle.lab_ties.proofs.Beginning.{tied-empty}
+use Rattle.lab_workers.specs.Acts.{core_acts, sched_acts}
+use Rattle.lab_workers.specs.Finished.{IsFinished, IsFinishedCore}
+use Rattle.lab_workers.specs.Laws.{JudgementsLast, TiesLast}
+use Rattle.lab_workers.specs.Settings.{config_at}
+use Rattle.lab_workers.specs.Ties.{AreTied}
+use Rattle.lab_workers.proofs.Beginning.{tied-empty}
 use Rattle.desk_kernels.specs.Alone.{OpenSessionsWereOpenBefore}
 use Rattle.desk_kernels.specs.Chairs.{CoreChair, KnowsItsOwn, core_entries}
 use Rattle.desk_kernels.proofs.Seen.{booked-entries}

@@ -3,7 +3,7 @@
 ghost use Rattle.std.specs.Prelude.{◌≡◌, ◌<◌, ℕ, Some, length, map, slice_get, All};
 ghost use Rattle.desk.specs.Seated.{Opened};
 ghost use Rattle.rtio_core.specs.declared.data.Config.{Config};
-ghost use Rattle.lab_ties.specs.Finished.{IsFinished};
+ghost use Rattle.lab_workers.specs.Finished.{IsFinished};
 ghost use Rattle.lab_crew.specs.Columns.{HasRoom, column};
 ghost use Rattle.lab_crew.specs.Closed.{AreChairsOf, AreClosed, IsClosedCore, IsClosedSched};
 ghost use Rattle.lab_crew.specs.Crews.{AreSetFor, IsCrewDone};
@@ -15,8 +15,7 @@ use crate::member::{Member, Room};
 use desk::{Chair, Desk};
 use desk_kernels::open_sessions_were_open_before;
 use lab_kits::Kit;
-use lab_ties::{judgements_last, ties_last};
-use lab_workers::Desks;
+use lab_workers::{Desks, judgements_last, ties_last};
 use rtio_core::Core;
 use sched_core::Sched;
 use sched_laws::{a_run_in_flight_stands_by_its_job, what_is_over_stays_over};

@@ -3,8 +3,8 @@
 ghost use Rattle.std.specs.Prelude.{◌≡◌, ◌<◌, IfOk, IsTrue};
 ghost use Rattle.exp_model.specs.Sessions.{is_session};
 ghost use Rattle.sched_core.specs.Scheds.{new_sched};
-ghost use Rattle.lab_ties.specs.Finished.{IsFinished};
-ghost use Rattle.lab_ties.specs.Settings.{new_cores};
+ghost use Rattle.lab_workers.specs.Finished.{IsFinished};
+ghost use Rattle.lab_workers.specs.Settings.{new_cores};
 
 use crate::closing::close_desks;
 use crate::preparing::{Prepared, prepare};

@@ -4,7 +4,7 @@ ghost use Rattle.std.specs.Prelude.{◌≡◌, [], ◌<◌, IfOk, IsTrue, map, A
 ghost use Rattle.std.specs.List.{AllZip};
 ghost use Rattle.exp_model.specs.Sessions.{is_session};
 ghost use Rattle.sched_core.specs.Scheds.{new_sched};
-ghost use Rattle.lab_ties.specs.Settings.{new_cores};
+ghost use Rattle.lab_workers.specs.Settings.{new_cores};
 ghost use Rattle.lab_crew.specs.Columns.{IsDeskOf, columns_of};
 ghost use Rattle.lab_crew.specs.Crews.{AreNewChairs, AreSetFor};
 

@@ -16,11 +16,11 @@ use Rattle.sched_state.specs.declared.entry.SchedEntry.{SchedEntry}
 use Rattle.sched_state.specs.Picks.{is_over}
 use Rattle.sched_core.specs.Scheds.{SchedValue, sched_state}
 use Rattle.desk_rule.specs.Histories.{acts_of}
-use Rattle.lab_ties.proofs.Beginning.{tied-empty}
-use Rattle.lab_ties.specs.Acts.{core_acts, sched_acts}
-use Rattle.lab_ties.specs.Finished.{IsFinishedCore, IsFinishedSched}
-use Rattle.lab_ties.specs.Settings.{config_of, new_cores}
-use Rattle.lab_ties.specs.Ties.{AreTied}
+use Rattle.stage_work.proofs.Beginning.{tied-empty}
+use Rattle.stage_work.specs.Acts.{core_acts, sched_acts}
+use Rattle.stage_work.specs.Finished.{IsFinishedCore, IsFinishedSched}
+use Rattle.stage_work.specs.Settings.{config_of, new_cores}
+use Rattle.stage_work.specs.Ties.{AreTied}
 use Rattle.stage_work.specs.Serving.{IsServed, IsServedCore, IsServedSched}
 use Rattle.lab_program.specs.Laboratories.{IsWorkedOff}
 

@@ -14,7 +14,7 @@ use Rattle.exp_model.specs.declared.session.Session.{Session}
 use Rattle.exp_model.specs.Edges.{are_edges, are_rising, is_edge, is_edge_before}
 use Rattle.exp_model.specs.Sessions.{are_arrivals, are_settings, is_experiment, is_from_to, is_pipeline, is_session, is_source, sizes_of}
 use Rattle.sched_state.proofs.Openings.{first, second}
-use Rattle.lab_ties.specs.Settings.{config_of}
+use Rattle.stage_work.specs.Settings.{config_of}
 
 abbrev core_for : Session → Pipeline → CoreState
 core_for session pipeline = new_core (config_of session pipeline)

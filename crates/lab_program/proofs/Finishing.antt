@@ -10,8 +10,8 @@ use Rattle.core_session.specs.Timed.{drained}
 use Rattle.exp_model.specs.declared.session.Session.{Session}
 use Rattle.sched_state.specs.declared.entry.SchedEntry.{SchedEntry}
 use Rattle.sched_core.specs.Scheds.{IsSched, SchedValue}
-use Rattle.lab_ties.specs.Finished.{IsFinished, IsFinishedCore}
-use Rattle.lab_ties.specs.Laws.{AreAskedAtTop, CoresAreAskedAtTop}
+use Rattle.stage_work.specs.Finished.{IsFinished, IsFinishedCore}
+use Rattle.stage_work.specs.Laws.{AreAskedAtTop, CoresAreAskedAtTop}
 use Rattle.stage_work.specs.Serving.{ArePrompt}
 use Rattle.lab_program.proofs.Alone.{as-slice}
 use Rattle.lab_program.specs.Draining.{AreDrained, IsDrained}

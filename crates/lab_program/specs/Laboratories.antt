@@ -5,8 +5,8 @@ use Rattle.rtio_headline.specs.Headline.{Headline}
 use Rattle.exp_model.specs.declared.session.Session.{Session}
 use Rattle.sched_core.specs.Scheds.{IsSched, SchedValue}
 use Rattle.lab_report.specs.Report.{lab_text}
-use Rattle.lab_ties.specs.Finished.{IsFinished}
-use Rattle.lab_ties.specs.Laws.{AreAskedAtTop}
+use Rattle.stage_work.specs.Finished.{IsFinished}
+use Rattle.stage_work.specs.Laws.{AreAskedAtTop}
 use Rattle.stage_work.specs.Serving.{ArePrompt}
 
 -- on each core no cycle passed before a start nor before an end, unless that is one at the horizon

@@ -7,7 +7,7 @@ use crate::laboratory::run_laboratory;
 use crate::refusal::{field_refusal, json_refusal};
 use exp_json::laws::no_session_has_a_fault;
 use exp_json::{SessionFault, read_session};
-use lab_kits::Gate;
+use stage_work::Gate;
 use std::alloc::{AllocError, Global};
 use std::sync::Wait;
 use std::thread::Threads;

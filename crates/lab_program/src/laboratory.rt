@@ -3,20 +3,18 @@
 ghost use Rattle.std.specs.Prelude.{◌≡◌, IfOk, IsTrue};
 ghost use Rattle.exp_model.specs.Sessions.{is_session};
 ghost use Rattle.sched_core.specs.Scheds.{new_sched};
-ghost use Rattle.lab_ties.specs.Settings.{new_cores};
+ghost use Rattle.stage_work.specs.Settings.{new_cores};
 ghost use Rattle.lab_program.specs.Laboratories.{IsRunOf, IsWorkedOff, ReportsRun};
 
 use crate::draining::drain_cores;
 use crate::opening::open_cores;
 use exp_model::Session;
 use lab_crew::run_crew;
-use lab_kits::{Gate, Kit};
 use lab_report::report;
-use lab_ties::cores_are_asked_at_top;
 use rtio_core::Core;
 use rtio_headline::what_is_put_out_was_submitted;
 use sched_core::Sched;
-use stage_work::serve;
+use stage_work::{Gate, Kit, cores_are_asked_at_top, serve};
 use std::alloc::{AllocError, Global};
 use std::sync::Wait;
 use std::thread::Threads;

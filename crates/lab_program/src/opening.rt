@@ -3,7 +3,7 @@
 ghost use Rattle.std.specs.Prelude.{◌≡◌, IfOk, IsTrue};
 ghost use Rattle.exp_model.specs.Sessions.{are_settings, is_pipeline, is_session};
 ghost use Rattle.rtio_core.specs.Core.{new_core};
-ghost use Rattle.lab_ties.specs.Settings.{config_of, new_cores};
+ghost use Rattle.stage_work.specs.Settings.{config_of, new_cores};
 
 use exp_model::{Pipeline, Session};
 use rtio_core::{Config, Core, NamedList};

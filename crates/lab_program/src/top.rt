@@ -10,7 +10,7 @@ ghost use Rattle.lab_program.specs.Refusals.{IsRefusedText};
 
 use crate::answer::{Answer, answer_to};
 use lab_io::{ReadEnd, Sink, Source, read_all, write_all};
-use lab_kits::Gate;
+use stage_work::Gate;
 use std::alloc::Global;
 use std::sync::Wait;
 use std::thread::Threads;

@@ -14,7 +14,7 @@ use Rattle.sched_laws.proofs.Standing.{flying-stand}
 use Rattle.sched_core.specs.declared.answer.Job.TheVariants as job
 use Rattle.sched_core.specs.Calls.{IsJobFor}
 use Rattle.sched_core.specs.Scheds.{HasCall, SchedValue}
-use Rattle.lab_ties.specs.DoesAs.{DoesAs}
+use Rattle.stage_work.specs.DoesAs.{DoesAs}
 use Rattle.lab_kits.specs.declared.kit.Kit.{Kit}
 use Rattle.lab_kits.specs.Kits.{KitCall, KitText, kit_source, program_in}
 use Rattle.stage_work.specs.declared.stepping.StepAt.{StepAt}

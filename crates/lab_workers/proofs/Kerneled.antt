@@ -24,18 +24,18 @@ use Rattle.sched_state.specs.Lawful.{state_after}
 use Rattle.sched_core.specs.declared.answer.Job.TheVariants as job
 use Rattle.sched_core.specs.Calls.{IsJobFor, entry_of}
 use Rattle.sched_core.specs.Scheds.{SchedValue}
-use Rattle.lab_ties.specs.DoesAs.{DoesAs}
+use Rattle.stage_work.specs.DoesAs.{DoesAs}
 use Rattle.core_session.specs.Sessions.{entry_of as core_entry_of}
 use Rattle.lab_kits.specs.declared.kit.Kit.{Kit}
 use Rattle.lab_kits.specs.Calls.{HasFunction}
 use Rattle.lab_kits.specs.Kits.{KitCall, KitText, kit_source, program_in}
-use Rattle.lab_ties.proofs.Beginning.{tied-further}
-use Rattle.lab_ties.proofs.Kerneled.{kernels-are-steps}
-use Rattle.lab_ties.proofs.Lasting.{ties-last}
-use Rattle.lab_ties.proofs.Tied.{ties-grow}
-use Rattle.lab_ties.specs.Judged.{IsJudged}
-use Rattle.lab_ties.specs.Steps.{IsKernelStep, start_of}
-use Rattle.lab_ties.specs.Ties.{AreTied, report_on, reports_of}
+use Rattle.stage_work.proofs.Beginning.{tied-further}
+use Rattle.stage_work.proofs.Kerneled.{kernels-are-steps}
+use Rattle.stage_work.proofs.Lasting.{ties-last}
+use Rattle.stage_work.proofs.Tied.{ties-grow}
+use Rattle.stage_work.specs.Judged.{IsJudged}
+use Rattle.stage_work.specs.Steps.{IsKernelStep, start_of}
+use Rattle.stage_work.specs.Ties.{AreTied, report_on, reports_of}
 use Rattle.stage_work.proofs.Cores.{set-at}
 use Rattle.stage_work.proofs.Scheds.{job-lasts}
 use Rattle.stage_work.proofs.Steps.{one-report, others-none}

@@ -9,3 +9,4 @@ pub mod Waiting
 pub mod Doing
 pub mod Halted
 pub mod Rounds
+pub use Rattle.stage_work.proofs.Beginning

@@ -13,10 +13,10 @@ use Rattle.rtio_core.specs.declared.data.Entry.{Entry}
 use Rattle.exp_model.specs.declared.session.Session.{Session}
 use Rattle.sched_state.specs.declared.entry.SchedAct.{SchedAct}
 use Rattle.sched_state.specs.declared.entry.SchedEntry.{SchedEntry}
-use Rattle.lab_ties.proofs.Beginning.{tied-further}
-use Rattle.lab_ties.proofs.Lasting.{judgements-last, ties-last}
-use Rattle.lab_ties.specs.Judged.{IsJudged}
-use Rattle.lab_ties.specs.Ties.{AreTied}
+use Rattle.stage_work.proofs.Beginning.{tied-further}
+use Rattle.stage_work.proofs.Lasting.{judgements-last, ties-last}
+use Rattle.stage_work.specs.Judged.{IsJudged}
+use Rattle.stage_work.specs.Ties.{AreTied}
 use Rattle.desk_kernels.specs.Chairs.{CoreChair, core_entries}
 use Rattle.lab_workers.specs.declared.desks.Desks.{Desks}
 use Rattle.lab_workers.specs.Rounds.{GoesOn, KeepsRest}

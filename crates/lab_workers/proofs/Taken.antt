@@ -22,8 +22,8 @@ use Rattle.sched_laws.proofs.Holding.{fly-until-reported}
 use Rattle.sched_core.specs.Booked.{booked_acts}
 use Rattle.sched_core.specs.Scheds.{IsKitIn}
 use Rattle.lab_kits.specs.Kits.{KitCall, KitText, kit_source}
-use Rattle.lab_ties.proofs.Lasting.{accepted-same, judgements-last}
-use Rattle.lab_ties.specs.Judged.{IsJudged, OfRun}
+use Rattle.stage_work.proofs.Lasting.{accepted-same, judgements-last}
+use Rattle.stage_work.specs.Judged.{IsJudged, OfRun}
 use Rattle.lab_workers.specs.declared.tasks.Report.{Report}
 use Rattle.lab_workers.specs.declared.tasks.Report.TheVariants as report
 use Rattle.lab_workers.specs.Reports.{HasRanAt, IsRight, act_told}

@@ -11,8 +11,8 @@ use Rattle.sched_state.specs.declared.entry.SchedEntry.{SchedEntry}
 use Rattle.sched_core.specs.Booked.{booked_acts}
 use Rattle.sched_core.specs.Calls.{entry_of, with_entry}
 use Rattle.sched_core.specs.Scheds.{IsSched, SchedValue}
-use Rattle.lab_ties.specs.Judged.{IsJudged}
-use Rattle.lab_ties.specs.Ties.{reports_of}
+use Rattle.stage_work.specs.Judged.{IsJudged}
+use Rattle.stage_work.specs.Ties.{reports_of}
 use Rattle.stage_work.specs.Jobs.{Flies}
 use Rattle.lab_workers.specs.declared.tasks.Report.{Report}
 use Rattle.lab_workers.specs.declared.tasks.Report.TheVariants as report

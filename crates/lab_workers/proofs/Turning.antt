@@ -21,8 +21,8 @@ use Rattle.sched_core.specs.Calls.{AnswersNext, IsJobFor, entry_of, jumped, jump
 use Rattle.sched_core.specs.Scheds.{IsSched, SchedValue, sched_state}
 use Rattle.lab_kits.specs.declared.kit.Kit.{Kit}
 use Rattle.lab_kits.specs.Kits.{KitCall, KitText, kit_source}
-use Rattle.lab_ties.specs.Judged.{IsJudged}
-use Rattle.lab_ties.specs.Ties.{reports_of}
+use Rattle.stage_work.specs.Judged.{IsJudged}
+use Rattle.stage_work.specs.Ties.{reports_of}
 use Rattle.stage_work.specs.Jobs.{Flies}
 use Rattle.stage_work.proofs.Scheds.{job-lasts}
 use Rattle.lab_workers.specs.declared.tasks.Task.{Task}

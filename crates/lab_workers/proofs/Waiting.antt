@@ -15,8 +15,8 @@ use Rattle.rtio_core.specs.Core.{CoreState}
 use Rattle.rtio_core.specs.Entries.{open_session}
 use Rattle.rtio_core.specs.Lawful.{IsLawful}
 use Rattle.exp_model.specs.declared.session.Session.{Session}
-use Rattle.lab_ties.proofs.Lasting.{ties-last}
-use Rattle.lab_ties.specs.Ties.{AreTied}
+use Rattle.stage_work.proofs.Lasting.{ties-last}
+use Rattle.stage_work.specs.Ties.{AreTied}
 use Rattle.sched_state.specs.declared.entry.SchedEntry.{SchedEntry}
 use Rattle.stage_work.proofs.Cores.{set-at}
 use Rattle.desk_kernels.proofs.Alone.{stays-open}

@@ -6,3 +6,9 @@ pub mod Reports
 pub mod Stepping
 pub mod Idling
 pub mod Rounds
+pub use Rattle.stage_work.specs.Acts
+pub use Rattle.stage_work.specs.Finished
+pub use Rattle.stage_work.specs.Judged
+pub use Rattle.stage_work.specs.Laws
+pub use Rattle.stage_work.specs.Settings
+pub use Rattle.stage_work.specs.Ties

@@ -15,7 +15,7 @@ use Rattle.sched_state.specs.Reports.{run_steps, step_effect}
 use Rattle.sched_core.specs.Calls.{found_pipeline}
 use Rattle.lab_kits.specs.Accepted.{IsAccepted}
 use Rattle.lab_kits.specs.Kits.{IsKitOf}
-use Rattle.lab_ties.specs.Judged.{IsJudged, OfRun}
+use Rattle.stage_work.specs.Judged.{IsJudged, OfRun}
 use Rattle.lab_workers.specs.declared.tasks.Report.{Report}
 use Rattle.lab_workers.specs.declared.tasks.Report.TheVariants as report
 use Rattle.lab_workers.specs.Turns.{HasPut}

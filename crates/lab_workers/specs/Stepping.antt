@@ -10,7 +10,7 @@ use Rattle.desk_kernels.specs.Meant.{TakesArguments}
 use Rattle.lab_kits.specs.declared.kit.Kit.{Kit}
 use Rattle.lab_kits.specs.Calls.{HasFunction}
 use Rattle.lab_kits.specs.Kits.{program_in}
-use Rattle.lab_ties.specs.Steps.{start_of}
+use Rattle.stage_work.specs.Steps.{start_of}
 use Rattle.desk_kernels.specs.Chairs.{CoreChair, IsSameChair, KnowsItsOwn}
 use Rattle.desk_kernels.specs.Kernels.{RunsKernelAt}
 use Rattle.lab_workers.specs.declared.desks.Desks.{Desks}

@@ -10,8 +10,8 @@ use Rattle.sched_state.specs.Lawful.{IsLawful}
 use Rattle.sched_core.specs.Booked.{booked_acts}
 use Rattle.sched_core.specs.Calls.{entry_of}
 use Rattle.sched_core.specs.Scheds.{SchedValue}
-use Rattle.lab_ties.specs.Judged.{IsJudged}
-use Rattle.lab_ties.specs.Ties.{reports_of}
+use Rattle.stage_work.specs.Judged.{IsJudged}
+use Rattle.stage_work.specs.Ties.{reports_of}
 use Rattle.desk_kernels.specs.Chairs.{IsSameChair, KnowsItsOwn}
 use Rattle.lab_workers.specs.declared.tasks.Turn.{Turn}
 use Rattle.lab_workers.specs.Tasks.{IsTakenLast, IsTurnIn}

@@ -10,9 +10,9 @@ use Rattle.exp_model.specs.Sessions.{is_session}
 use Rattle.sched_state.specs.declared.entry.SchedAct.{SchedAct}
 use Rattle.sched_state.specs.declared.entry.SchedAct.TheVariants.{Halted}
 use Rattle.sched_state.specs.declared.entry.SchedEntry.{SchedEntry}
-use Rattle.lab_ties.specs.Judged.{IsJudged}
-use Rattle.lab_ties.specs.Settings.{config_at}
-use Rattle.lab_ties.specs.Ties.{AreTied}
+use Rattle.stage_work.specs.Judged.{IsJudged}
+use Rattle.stage_work.specs.Settings.{config_at}
+use Rattle.stage_work.specs.Ties.{AreTied}
 use Rattle.desk_kernels.specs.Chairs.{CoreChair, KnowsItsOwn, core_entries}
 use Rattle.lab_workers.specs.declared.desks.Desks.{Desks}
 

@@ -13,4 +13,6 @@ mod turns;
 mod worker;
 
 pub use desks::Desks;
+/// Laws on what workers leave in the histories: it lasts.
+pub use stage_work::{judgements_last, ties_last};
 pub use worker::{WorkEnd, Worker};

@@ -1,3 +1,11 @@
 pub mod Jobs
 pub mod Serving
 pub mod Stepping
+pub use Rattle.lab_ties.specs.Acts
+pub use Rattle.lab_ties.specs.DoesAs
+pub use Rattle.lab_ties.specs.Finished
+pub use Rattle.lab_ties.specs.Judged
+pub use Rattle.lab_ties.specs.Laws
+pub use Rattle.lab_ties.specs.Settings
+pub use Rattle.lab_ties.specs.Steps
+pub use Rattle.lab_ties.specs.Ties

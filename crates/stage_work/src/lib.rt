@@ -9,5 +9,7 @@ mod serving;
 mod stepping;
 
 pub use lab_kits::{Gate, Kit, OpenGate, Place, PrepareEnd, prepare};
+/// Laws on what the work of chairs comes to in the histories that they leave.
+pub use lab_ties::{cores_are_asked_at_top, judgements_last, ties_last};
 pub use reporting::{report_analyzed, report_prepared, report_refused, report_step, run_in_flight};
 pub use serving::serve;

@@ -1,7 +1,7 @@
 use Rattle.std.proofs.Common.{◌≡◌, map, take}
 use Rattle.exp_model.specs.declared.session.Pipeline.{Pipeline}
 use Rattle.rtio_core.specs.Core.{new_core}
-use Rattle.lab_ties.specs.Settings.{config_of}
+use Rattle.stage_work.specs.Settings.{config_of}
 use Rattle.lab_program.proofs.opening.open_cores.Given as goal
 
 -- the cores of the pipelines so far

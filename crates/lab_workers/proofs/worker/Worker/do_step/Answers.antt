@@ -1,6 +1,6 @@
 use Rattle.std.proofs.Common.{◌≡◌, sym, ap, subst, ◌∙◌}
 use Rattle.std.proofs.lemmas.Result.{on_ok_weaker}
-use Rattle.lab_ties.specs.DoesAs.{DoesAs}
+use Rattle.stage_work.specs.DoesAs.{DoesAs}
 use Rattle.sched_state.specs.declared.entry.JobName.TheVariants as name
 use Rattle.lab_kits.specs.Kits.{program_in}
 use Rattle.lab_workers.specs.declared.tasks.Report.TheVariants as report
