@@ -10,6 +10,7 @@ use Rattle.exp_model.specs.declared.session.Session.{Session}
 use Rattle.sched_laws.proofs.Arriving.{clock-flying}
 use Rattle.sched_core.specs.Scheds.{SchedValue, new_sched}
 use Rattle.lab_ties.specs.Settings.{config_of, new_cores}
+pub use Rattle.lab_ties.proofs.Beginning.{tied-empty, tied-further}
 use Rattle.stage_work.specs.Serving.{IsServed, IsServedCore}
 
 abbrev core_for : Session → Pipeline → CoreState

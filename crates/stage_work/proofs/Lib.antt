@@ -6,7 +6,6 @@ pub mod Done
 pub mod Steps
 pub mod Jobs
 pub mod Beginning
-pub use Rattle.lab_ties.proofs.Beginning
 pub use Rattle.lab_ties.proofs.Kerneled
 pub use Rattle.lab_ties.proofs.Lasting
 pub use Rattle.lab_ties.proofs.Tied
