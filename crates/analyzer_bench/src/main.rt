@@ -2,19 +2,21 @@
 //! the dump and the waveform have.
 #![tactic(auto)]
 
-mod cores;
 mod rounds;
 
-use crate::cores::drained;
 use crate::rounds::{Work, worked};
+use sent_outputs::outputs_sent;
 use std::{env, io};
+
+// How many cycles an output is behind the one before it.
+const DISTANCE: u64 = 10;
 
 fn main(rt: HostRuntime) -> io::Result<()> {
     let Some(words) = read_words(&rt) else {
         return println!(rt; "words: OUTPUTS ROUNDS, and write, read or draw");
     };
     let alloc = rt.alloc();
-    match drained(alloc, words.outputs).and_then(|core| worked(
+    match outputs_sent(alloc, words.outputs, DISTANCE).and_then(|core| worked(
         alloc,
         &core,
         words.work,

@@ -1,6 +1,13 @@
 // What is timed.
 
-use core_analyzer::{Dump, has_few_entries, read_dump, rising, vcd, write_dump};
+ghost use Rattle.std.specs.Prelude.{◌≡◌, ℕ, List, length, IfSome};
+ghost use Rattle.core_analyzer.specs.CoreDumps.{dump_of};
+ghost use Rattle.core_analyzer.specs.Dumps.{IsSpelling};
+ghost use Rattle.core_analyzer.specs.Waveform.{waveform_text};
+
+use core_analyzer::{
+    Dump, a_dump_has_one_spelling, has_few_entries, read_dump, rising, vcd, write_dump,
+};
 use rtio_core::Core;
 use std::alloc::Global;
 
@@ -26,7 +33,11 @@ pub struct Sizes {
 
 /// Writes the dump of a core, reads it and writes its waveform, and then does one of these so many times more. None where the
 /// core's dump has no bytes or no waveform, or there is no memory.
-pub fn worked(alloc: Global, core: &Core, work: Work, rounds: u64) -> Option<Sizes> {
+pub fn worked(alloc: Global, core: &Core, work: Work, rounds: u64) -> Option<Sizes>
+    ensures dump { IfSome result (λ sizes. (bytes : List ℕ) → IsSpelling bytes (dump_of core.now) → sizes.dump ≡ length bytes) }
+    ensures waveform { IfSome result (λ sizes. sizes.waveform ≡ length (waveform_text (dump_of core.now).events)) }
+{
+    a_dump_has_one_spelling();
     let bytes = written(alloc, core)?;
     let dump = read_dump(alloc, &bytes).ok()?;
     let waveform = drawn(alloc, &dump)?;
@@ -39,6 +50,7 @@ pub fn worked(alloc: Global, core: &Core, work: Work, rounds: u64) -> Option<Siz
     })
 }
 
+// One of the three once more.
 fn repeat(alloc: Global, core: &Core, bytes: &[u8], dump: &Dump, work: Work) -> Option<()> {
     match work {
         Work::Write => {
@@ -54,14 +66,20 @@ fn repeat(alloc: Global, core: &Core, bytes: &[u8], dump: &Dump, work: Work) -> 
     Some(())
 }
 
-fn written(alloc: Global, core: &Core) -> Option<Vec<u8>> {
+// The bytes of the core's dump.
+fn written(alloc: Global, core: &Core) -> Option<Vec<u8>>
+    ensures { IfSome result (λ bytes. IsSpelling bytes.items (dump_of core.now)) }
+{
     if !has_few_entries(core) {
         return None;
     }
     write_dump(alloc, core).ok()
 }
 
-fn drawn(alloc: Global, dump: &Dump) -> Option<Vec<u8>> {
+// The dump's waveform.
+fn drawn(alloc: Global, dump: &Dump) -> Option<Vec<u8>>
+    ensures { IfSome result (λ bytes. bytes.items ≡ waveform_text dump.now.events) }
+{
     if !rising(dump) {
         return None;
     }

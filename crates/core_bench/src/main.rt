@@ -2,9 +2,7 @@
 //! stood in the end.
 #![tactic(auto)]
 
-mod outputs;
-
-use crate::outputs::outputs_sent;
+use sent_outputs::outputs_sent;
 use std::{env, io};
 
 fn main(rt: HostRuntime) -> io::Result<()> {

@@ -1,6 +1,6 @@
 use Rattle.std.specs.Prelude.{◌≡◌, Some, None}
 use Rattle.rtio_core.specs.Entries.{open_session}
-use Rattle.analyzer_bench.proofs.cores.send_all.Given as goal
+use Rattle.sent_outputs.proofs.outputs.send_all.Given as goal
 
 -- the session is open, and nothing waits
 abbrev pub invariant-loop-number : goal.invariant-loop-number
