@@ -10,7 +10,7 @@ use core_cpu::{Cpu, Stop};
 use core_image::Verified;
 use kern_lexer::lex;
 use kern_parser::{SyntaxEnd, parse};
-use kern_types::{Checked, TypeEnd, check};
+use kern_types::{Checked, check};
 use rtio_types::{Event, Outcome, Recording, Reply, fits, well_formed};
 use std::alloc::{AllocError, Global};
 use std::process::Abort;
@@ -136,8 +136,7 @@ pub fn checked_of(rt: &impl Abort, alloc: Global, text: &str) -> Result<Checked,
     };
     match check(alloc, program) {
         Ok(checked) => Ok(checked),
-        Err(TypeEnd::Memory) => Err(AllocError.into()),
-        Err(TypeEnd::Fault { line, kind }) => panic!(rt; "{kind:?} in line {line} of {text}"),
+        Err(fault) => panic!(rt; "{fault:?} of {text}"),
     }
 }
 

@@ -106,10 +106,7 @@ fn code_of(alloc: Global, checked: &Checked) -> Result<Code, AllocError>
     let functions = checked.program().functions();
     let numbers = number_functions(alloc, functions)?;
     let texts = texts_of(alloc, functions)?;
-    let plain = match checked.plain_functions(alloc) {
-        Ok(plain) => plain,
-        Err(_) => return Err(AllocError),
-    };
+    let plain = checked.plain_functions(alloc)?;
     let program = Functions {
         functions,
         numbers: &numbers,

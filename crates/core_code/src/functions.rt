@@ -1,6 +1,6 @@
 // The code of functions, one behind the other.
 
-ghost use Rattle.std.specs.Prelude.{◌≡◌, ◌+◌, ◌<◌, ◌≤◌, ◌^◌, ◌++◌, [], ◌∷◌, IfOk, OnOk, is_some, length};
+ghost use Rattle.std.specs.Prelude.{◌≡◌, ◌+◌, ◌<◌, ◌≤◌, ◌^◌, ◌++◌, [], ◌∷◌, IfOk, OnOk, is_some, length, map};
 ghost use Rattle.kern_syntax.specs.TreeOf.{block_of, function_of};
 ghost use Rattle.kern_expression_types.specs.Before.{is_in};
 ghost use Rattle.code_forms.specs.Programs.{block_slots, entries_of, entry_of, function_code, function_size, functions_code};
@@ -13,7 +13,6 @@ use core_code_statements::{Setting, SlottedNames, Texts, block_slots, put_body};
 use core_isa::{CodeFunction, CodeLine};
 use kern_names::{Functions, names_of};
 use kern_syntax::Function;
-use kern_types::NameList;
 use std::alloc::{AllocError, Global};
 
 /// The functions that are put: their entries, and their lines one behind the other.
@@ -25,7 +24,7 @@ pub struct Parts {
 
 // The entry of a function that has these names and whose code begins at a place.
 fn entry_of(
-    plain: &NameList,
+    plain: &[&[u8]],
     names: &SlottedNames,
     place: usize,
     function: &Function,
@@ -38,7 +37,7 @@ fn entry_of(
       params = length function.now.parameters;
       slots = slots_of_names names.now + block_slots (block_of function.now.body);
       value = is_some function.now.result;
-      plain = is_in plain.now function.now.name;
+      plain = is_in (map (λ n. n.now) plain.now) function.now.name;
     } }
 {
     CodeFunction {
@@ -46,7 +45,7 @@ fn entry_of(
         params: function.parameters.items().len() as u8,
         slots: names.slots().saturating_add(block_slots(&function.body)),
         value: function.result.is_some(),
-        plain: plain.contains(function.name.bytes()),
+        plain: plain.iter().any(|name| function.name.bytes() == *name),
     }
 }
 
@@ -54,7 +53,7 @@ fn entry_of(
 fn put_function(
     alloc: Global,
     program: &Functions<'_>,
-    plain: &NameList,
+    plain: &[&[u8]],
     texts: &Texts,
     parts: &mut Parts,
     function: &Function,
@@ -62,7 +61,7 @@ fn put_function(
     requires few { length program.now.functions.now < 2 ^ 16 }
     requires ready { IsReadyFunction (program_of program.now) texts.now (length parts.old.lines.items) (function_of function.now) }
     ensures entry { OnOk result (parts.new.entries.items ≡ parts.old.entries.items
-        ++ entry_of (program_of program.now) plain.now (length parts.old.lines.items) (function_of function.now) ∷ []) }
+        ++ entry_of (program_of program.now) (map (λ n. n.now) plain.now) (length parts.old.lines.items) (function_of function.now) ∷ []) }
     ensures code { OnOk result (parts.new.lines.items ≡ parts.old.lines.items
         ++ function_code (program_of program.now) texts.now (length parts.old.lines.items) (function_of function.now)) }
     ensures longer { OnOk result (length parts.new.lines.items ≡ length parts.old.lines.items
@@ -80,13 +79,13 @@ fn put_function(
 pub fn put_functions(
     alloc: Global,
     program: &Functions<'_>,
-    plain: &NameList,
+    plain: &[&[u8]],
     texts: &Texts,
 ) -> Result<Parts, AllocError>
     requires few { length program.now.functions.now < 2 ^ 16 }
     requires ready { AreReadyFrom (program_of program.now) texts.now 0 (program_of program.now) }
     ensures entries { IfOk result (λ parts. parts.entries.items
-        ≡ entries_of (program_of program.now) plain.now texts.now 0 (program_of program.now)) }
+        ≡ entries_of (program_of program.now) (map (λ n. n.now) plain.now) texts.now 0 (program_of program.now)) }
     ensures code { IfOk result (λ parts. parts.lines.items
         ≡ functions_code (program_of program.now) texts.now 0 (program_of program.now)) }
 {

@@ -8,7 +8,7 @@ ghost use Rattle.kern_syntax.specs.TreeOf.{tree_of};
 use kern_lexer::lex;
 use kern_parser::parse;
 use kern_syntax::{Program, print};
-use kern_types::{TypeEnd, TypeKind, check};
+use kern_types::{TypeFault, TypeKind, check};
 use std::alloc::Global;
 use std::process::Abort;
 use std::test::Fail;
@@ -37,7 +37,7 @@ fn expect_fault(
 ) -> Result<(), Fail> {
     match check(alloc, tree_of(rt, alloc, text)?) {
         Ok(_) => panic!(rt; "typed: {text}"),
-        Err(end) => assert_eq!(rt; end, TypeEnd::Fault { line, kind }, "of {text}"),
+        Err(fault) => assert_eq!(rt; fault, TypeFault { line, kind }, "of {text}"),
     }
     Ok(())
 }

@@ -1,5 +1,6 @@
 pub mod Bound
 pub mod Lists
+pub mod Misfits
 pub mod Named
-pub mod Numbers
+pub mod Pairs
 pub mod Parameters

@@ -2,6 +2,8 @@ pub mod Answers
 pub mod Before
 pub mod Expressions
 pub mod Fits
+pub mod FunctionNames
 pub mod KnownOf
+pub mod Misfits
 pub mod Numbered
 pub mod Verdicts

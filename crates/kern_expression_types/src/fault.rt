@@ -1,7 +1,5 @@
 // The faults of the checker.
 
-use std::alloc::{AllocError, AllocFailed};
-
 /// The kinds of a fault. The rules are this project's own; `docs/LANGUAGE.md` says where each comes.
 #[derive(Clone, Copy, Debug, PartialEq, Eq)]
 pub enum TypeKind {
@@ -31,55 +29,10 @@ pub enum TypeKind {
     NoMain,
 }
 
-/// A fault of a program.
+/// The first fault of a program in the order of evaluation.
 #[derive(Clone, Copy, Debug, PartialEq, Eq)]
 pub struct TypeFault {
     /// The line of its statement, branch or header, from 1.
     pub line: u32,
     pub kind: TypeKind,
-}
-
-/// Why a program isn't accepted.
-#[derive(Clone, Copy, Debug, PartialEq, Eq)]
-pub enum TypeEnd {
-    /// The first fault in the order of evaluation, with the line of its statement, branch or header, from 1.
-    Fault { line: u32, kind: TypeKind },
-    /// Want of memory.
-    Memory,
-}
-
-impl From<TypeFault> for TypeEnd {
-    ghost use Rattle.std.specs.Prelude.{◌≡◌};
-    ghost use Rattle.kern_expression_types.specs.declared.fault.TypeEnd.TheVariants.{Fault};
-
-    ghost from_gives = { λ fault end. end ≡ Fault fault.line fault.kind };
-
-    fn from(fault: TypeFault) -> TypeEnd {
-        TypeEnd::Fault {
-            line: fault.line,
-            kind: fault.kind,
-        }
-    }
-}
-
-impl From<AllocError> for TypeEnd {
-    ghost use Rattle.std.specs.Prelude.{◌≡◌};
-    ghost use Rattle.kern_expression_types.specs.declared.fault.TypeEnd.TheVariants.{Memory};
-
-    ghost from_gives = { λ _ end. end ≡ Memory };
-
-    fn from(_: AllocError) -> TypeEnd {
-        TypeEnd::Memory
-    }
-}
-
-impl<T: Drop> From<AllocFailed<T>> for TypeEnd {
-    ghost use Rattle.std.specs.Prelude.{◌≡◌};
-    ghost use Rattle.kern_expression_types.specs.declared.fault.TypeEnd.TheVariants.{Memory};
-
-    ghost from_gives = { λ _ end. end ≡ Memory };
-
-    fn from(_: AllocFailed<T>) -> TypeEnd {
-        TypeEnd::Memory
-    }
 }

@@ -1,15 +1,14 @@
 // Which values fit where a type is wanted.
 
-ghost use Rattle.std.specs.Prelude.{◌≡◌, map};
+ghost use Rattle.std.specs.Prelude.{◌≡◌};
 ghost use Rattle.kern_expression_types.specs.Answers.{Finds};
-ghost use Rattle.kern_syntax.specs.TreeOf.{parameter_of};
-ghost use Rattle.kern_expression_types.specs.Fits.{misfit, declared_wanted, wanted_of, given_result, kept_misfit, scalar_of, fit, fit_all, fit_each, as_condition, as_integer, as_ordered, as_equals, as_compared, as_statement};
+ghost use Rattle.kern_expression_types.specs.Fits.{misfit, declared_wanted, given_result, kept_misfit, scalar_of, fit, as_condition, as_integer, as_ordered, as_equals, as_compared, as_statement};
 ghost use Rattle.kern_expression_types.specs.Verdicts.{refuse_if, refuse_some};
 
 use crate::fault::{TypeFault, TypeKind};
 use crate::place::Given;
 use kern_calls::{ValueType, Wanted, declared_type};
-use kern_syntax::{Comparison, DeclaredType, Parameter};
+use kern_syntax::{Comparison, DeclaredType};
 
 /// A fault where the test says so.
 pub fn refuse_if(refused: bool, line: u32, kind: TypeKind) -> Result<(), TypeFault>
@@ -98,51 +97,6 @@ pub fn fit(line: u32, wanted: Wanted, given: Given) -> Result<(), TypeFault>
     ensures { Finds result (fit line wanted given) }
 {
     refuse_some(misfit(wanted, given), line)
-}
-
-/// Checks that each argument fits what is wanted, from left to right.
-pub fn fit_all(line: u32, wanted: &[Wanted], given: &[Given]) -> Result<(), TypeFault>
-    ensures { Finds result (fit_all line wanted.now given.now) }
-{
-    match wanted {
-        [] => Ok(()),
-        [wanted, rest @ ..] => match given {
-            [] => Ok(()),
-            [given, others @ ..] => {
-                fit(line, *wanted, *given)?;
-                fit_all(line, rest, others)
-            }
-        },
-    }
-}
-
-/// Checks that each argument fits its parameter, from left to right.
-pub fn fit_parameters(line: u32, parameters: &[Parameter], given: &[Given]) -> Result<(), TypeFault>
-    ensures { Finds result (fit_all line (wanted_of (map parameter_of parameters.now)) given.now) }
-{
-    match parameters {
-        [] => Ok(()),
-        [parameter, rest @ ..] => match given {
-            [] => Ok(()),
-            [given, others @ ..] => {
-                fit(line, declared_wanted(parameter.declared), *given)?;
-                fit_parameters(line, rest, others)
-            }
-        },
-    }
-}
-
-/// Checks that each value fits what is wanted, from left to right.
-pub fn fit_each(line: u32, wanted: Wanted, given: &[Given]) -> Result<(), TypeFault>
-    ensures { Finds result (fit_each line wanted given.now) }
-{
-    match given {
-        [given, rest @ ..] => {
-            fit(line, wanted, *given)?;
-            fit_each(line, wanted, rest)
-        }
-        [] => Ok(()),
-    }
 }
 
 /// Checks a condition, or an operand of `and`, `or` and `not`.

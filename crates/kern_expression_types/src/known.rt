@@ -1,12 +1,9 @@
 // What the text has before a statement.
 
-ghost use Rattle.std.specs.Prelude.{◌≡◌, List, ℕ, is_some, length, take};
-ghost use Rattle.kern_syntax.specs.TreeOf.{tree_of};
-ghost use Rattle.kern_expression_types.specs.Before.{is_in};
-ghost use Rattle.kern_expression_types.specs.Numbered.{numbered};
-ghost use Rattle.kern_calls.specs.Types.{function_named};
+ghost use Rattle.std.specs.Prelude.{◌≡◌, ◌≤◌, length};
+ghost use Rattle.kern_expression_types.specs.FunctionNames.{function_names};
 
-use crate::names::{FunctionNumbers, NameList};
+use crate::names::{FunctionNames, first_named, is_among};
 use crate::reserved::is_reserved;
 use kern_syntax::Function;
 
@@ -16,13 +13,13 @@ pub struct Known<'a> {
     /// All functions of the program.
     pub functions: &'a [Function],
     /// Their names, which no variable has.
-    pub all: &'a NameList,
-    /// Those that may be called: the first of them, up to the statement's own.
-    pub callable: &'a FunctionNumbers,
+    pub all: &'a FunctionNames<'a>,
+    /// How many of the first of them may be called: those up to the statement's own.
+    pub callable: usize,
     /// The names of those of the earlier ones that are plain.
-    pub plain: &'a NameList,
-    ghost all_named: { (name : List ℕ) → is_in all.now name ≡ is_some (function_named (tree_of functions.now) name) },
-    ghost callable_numbered: { callable.now ≡ numbered 0 (take (length callable.now) functions.now) },
+    pub plain: &'a [&'a [u8]],
+    ghost all_named: { all.now ≡ function_names functions.now },
+    ghost callable_within: { callable ≤ length functions.now },
 }
 
 impl<'a> Known<'a> {
@@ -43,16 +40,14 @@ impl<'a> Known<'a> {
     pub fn is_plain(&self, name: &[u8]) -> bool
         ensures { result ≡ is_in (functions_of self.now).plain name.now }
     {
-        self.plain.contains(name)
+        is_among(self.plain, name)
     }
 
     /// The function of a name that may be called.
     pub fn callee(&self, name: &[u8]) -> Option<&'a Function>
         ensures { option_map (λ f. function_of f.now) result ≡ function_named (functions_of self.now).callable name.now }
     {
-        match self.callable.get(name) {
-            Some(number) => self.functions.get(number),
-            None => None,
-        }
+        let callable = &self.functions[..self.callable];
+        first_named(callable, name)
     }
 }

@@ -48,10 +48,7 @@ fn note_function(
     let name = function.name.bytes();
     match numbers.get(name) {
         Some(_) => Ok(()),
-        None => match numbers.add(alloc, name, number) {
-            Ok(()) => Ok(()),
-            Err(_) => Err(AllocError),
-        },
+        None => numbers.add(alloc, name, number),
     }
 }
 

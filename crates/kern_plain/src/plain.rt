@@ -1,6 +1,6 @@
 // Functions that have no live call and no record block, also in what they call, and so may be called in a record block.
 
-ghost use Rattle.std.specs.Prelude.{◌≡◌, ◌++◌, [], ◌∷◌, None};
+ghost use Rattle.std.specs.Prelude.{◌≡◌, ◌++◌, [], ◌∷◌, None, map};
 ghost use Rattle.kern_syntax.specs.Tree.{no_more};
 ghost use Rattle.kern_syntax.specs.TreeOf.{expression_of, argument_of, arguments_of, block_of, statement_of, branches_of, handlers_of, function_of};
 ghost use Rattle.kern_expression_types.specs.Before.{is_in};
@@ -8,26 +8,25 @@ ghost use Rattle.kern_calls.specs.Calls.{builtin_named, method_named};
 ghost use Rattle.kern_plain.specs.Plain.{is_plain_call, is_plain_method, is_plain_expression, are_plain_arguments, is_plain_block, is_plain_statement, is_plain_otherwise, are_plain_handlers, is_plain_function};
 
 use kern_calls::{builtin_named, method_named};
-use kern_expression_types::NameList;
+use kern_expression_types::is_among;
 use kern_syntax::{Argument, Block, Elif, Expr, Function, Handler, StmtKind, Target};
 
 /// Whether a function is plain, given the plain ones before it; its own calls don't count.
-pub fn is_plain_function(plain: &NameList, function: &Function) -> bool
-    ensures { result ≡ is_plain_function plain.now (function_of function.now) }
+pub fn is_plain_function(plain: &[&[u8]], function: &Function) -> bool
+    ensures { result ≡ is_plain_function (map (λ n. n.now) plain.now) (function_of function.now) }
 {
     is_plain_block(plain, function.name.bytes(), &function.body)
 }
 
 // Whether a function of this name is plain, the function that is looked at taken as one.
-#[tactic(auto, using(crate::proofs::PlainNames::is_in_more))]
-fn is_plain_name(plain: &NameList, own: &[u8], name: &[u8]) -> bool
-    ensures { result ≡ is_in (plain.now ++ own.now ∷ []) name.now }
+fn is_plain_name(plain: &[&[u8]], own: &[u8], name: &[u8]) -> bool
+    ensures { result ≡ is_in (map (λ n. n.now) plain.now ++ own.now ∷ []) name.now }
 {
-    plain.contains(name) || name == own
+    is_among(plain, name) || name == own
 }
 
-fn is_plain_call(plain: &NameList, own: &[u8], name: &[u8]) -> bool
-    ensures { result ≡ is_plain_call (plain.now ++ own.now ∷ []) name.now (builtin_named name.now) }
+fn is_plain_call(plain: &[&[u8]], own: &[u8], name: &[u8]) -> bool
+    ensures { result ≡ is_plain_call (map (λ n. n.now) plain.now ++ own.now ∷ []) name.now (builtin_named name.now) }
 {
     match builtin_named(name) {
         Some(builtin) => !builtin.is_live(),
@@ -45,8 +44,8 @@ fn is_plain_method(object: &[u8], name: &[u8]) -> bool
 }
 
 #[cycle(plain_expressions)]
-fn is_plain_expression(plain: &NameList, own: &[u8], e: &Expr) -> bool
-    ensures { result ≡ is_plain_expression (plain.now ++ own.now ∷ []) (expression_of e.now) }
+fn is_plain_expression(plain: &[&[u8]], own: &[u8], e: &Expr) -> bool
+    ensures { result ≡ is_plain_expression (map (λ n. n.now) plain.now ++ own.now ∷ []) (expression_of e.now) }
 {
     match e {
         Expr::Integer(_) | Expr::True | Expr::False | Expr::Variable(_) => true,
@@ -71,8 +70,8 @@ fn is_plain_expression(plain: &NameList, own: &[u8], e: &Expr) -> bool
 }
 
 #[cycle(plain_expressions)]
-fn are_plain_arguments(plain: &NameList, own: &[u8], arguments: &[Argument]) -> bool
-    ensures { result ≡ are_plain_arguments (plain.now ++ own.now ∷ []) (arguments_of arguments.now) }
+fn are_plain_arguments(plain: &[&[u8]], own: &[u8], arguments: &[Argument]) -> bool
+    ensures { result ≡ are_plain_arguments (map (λ n. n.now) plain.now ++ own.now ∷ []) (arguments_of arguments.now) }
 {
     for argument in arguments.iter() {
         if !is_plain_argument(plain, own, argument) {
@@ -83,8 +82,8 @@ fn are_plain_arguments(plain: &NameList, own: &[u8], arguments: &[Argument]) -> 
 }
 
 #[cycle(plain_expressions)]
-fn is_plain_argument(plain: &NameList, own: &[u8], argument: &Argument) -> bool
-    ensures { result ≡ are_plain_arguments (plain.now ++ own.now ∷ []) (argument_of argument.now no_more) }
+fn is_plain_argument(plain: &[&[u8]], own: &[u8], argument: &Argument) -> bool
+    ensures { result ≡ are_plain_arguments (map (λ n. n.now) plain.now ++ own.now ∷ []) (argument_of argument.now no_more) }
 {
     match argument {
         Argument::Value(e) => is_plain_expression(plain, own, e),
@@ -92,11 +91,10 @@ fn is_plain_argument(plain: &NameList, own: &[u8], argument: &Argument) -> bool
     }
 }
 
-ghost use Rattle.std.specs.Prelude.{map};
 ghost use Rattle.std.specs.List.{list_all};
 
-fn are_plain_elements(plain: &NameList, own: &[u8], elements: &[Expr]) -> bool
-    ensures { result ≡ list_all (is_plain_expression (plain.now ++ own.now ∷ [])) (map expression_of elements.now) }
+fn are_plain_elements(plain: &[&[u8]], own: &[u8], elements: &[Expr]) -> bool
+    ensures { result ≡ list_all (is_plain_expression (map (λ n. n.now) plain.now ++ own.now ∷ [])) (map expression_of elements.now) }
 {
     for element in elements.iter() {
         if !is_plain_expression(plain, own, element) {
@@ -108,8 +106,8 @@ fn are_plain_elements(plain: &NameList, own: &[u8], elements: &[Expr]) -> bool
 
 ghost use Rattle.kern_plain.specs.Plain.{is_plain_target};
 
-fn is_plain_target(plain: &NameList, own: &[u8], target: &Target) -> bool
-    ensures { result ≡ is_plain_target (plain.now ++ own.now ∷ []) target.now }
+fn is_plain_target(plain: &[&[u8]], own: &[u8], target: &Target) -> bool
+    ensures { result ≡ is_plain_target (map (λ n. n.now) plain.now ++ own.now ∷ []) target.now }
 {
     match target {
         Target::Variable(_) => true,
@@ -118,8 +116,8 @@ fn is_plain_target(plain: &NameList, own: &[u8], target: &Target) -> bool
 }
 
 #[cycle(plain_blocks)]
-fn is_plain_block(plain: &NameList, own: &[u8], block: &Block) -> bool
-    ensures { result ≡ is_plain_block (plain.now ++ own.now ∷ []) (block_of block.now) }
+fn is_plain_block(plain: &[&[u8]], own: &[u8], block: &Block) -> bool
+    ensures { result ≡ is_plain_block (map (λ n. n.now) plain.now ++ own.now ∷ []) (block_of block.now) }
 {
     for statement in block.statements.iter() {
         if !is_plain_statement(plain, own, &statement.kind) {
@@ -130,8 +128,8 @@ fn is_plain_block(plain: &NameList, own: &[u8], block: &Block) -> bool
 }
 
 #[cycle(plain_blocks)]
-fn is_plain_statement(plain: &NameList, own: &[u8], statement: &StmtKind) -> bool
-    ensures { result ≡ is_plain_statement (plain.now ++ own.now ∷ []) (statement_of statement.now) }
+fn is_plain_statement(plain: &[&[u8]], own: &[u8], statement: &StmtKind) -> bool
+    ensures { result ≡ is_plain_statement (map (λ n. n.now) plain.now ++ own.now ∷ []) (statement_of statement.now) }
 {
     match statement {
         StmtKind::Pass | StmtKind::Break | StmtKind::Continue | StmtKind::Return(None) => true,
@@ -168,8 +166,8 @@ fn is_plain_statement(plain: &NameList, own: &[u8], statement: &StmtKind) -> boo
 }
 
 #[cycle(plain_blocks)]
-fn are_plain_branches(plain: &NameList, own: &[u8], branches: &[Elif]) -> bool
-    ensures { result ≡ is_plain_otherwise (plain.now ++ own.now ∷ []) (branches_of branches.now None) }
+fn are_plain_branches(plain: &[&[u8]], own: &[u8], branches: &[Elif]) -> bool
+    ensures { result ≡ is_plain_otherwise (map (λ n. n.now) plain.now ++ own.now ∷ []) (branches_of branches.now None) }
 {
     for branch in branches.iter() {
         if !is_plain_elif(plain, own, branch) {
@@ -185,15 +183,15 @@ ghost use Rattle.kern_syntax.specs.TreeOf.{elif_of, else_of};
 
 #[cycle(plain_blocks)]
 #[tactic(auto, using(crate::proofs::PlainNames::and_true))]
-fn is_plain_elif(plain: &NameList, own: &[u8], branch: &Elif) -> bool
-    ensures { result ≡ is_plain_otherwise (plain.now ++ own.now ∷ []) (elif_of branch.now no_else) }
+fn is_plain_elif(plain: &[&[u8]], own: &[u8], branch: &Elif) -> bool
+    ensures { result ≡ is_plain_otherwise (map (λ n. n.now) plain.now ++ own.now ∷ []) (elif_of branch.now no_else) }
 {
     is_plain_expression(plain, own, &branch.condition) && is_plain_block(plain, own, &branch.body)
 }
 
 #[cycle(plain_blocks)]
-fn is_plain_else(plain: &NameList, own: &[u8], last: &Option<Block>) -> bool
-    ensures { result ≡ is_plain_otherwise (plain.now ++ own.now ∷ []) (else_of (option_map block_of last.now)) }
+fn is_plain_else(plain: &[&[u8]], own: &[u8], last: &Option<Block>) -> bool
+    ensures { result ≡ is_plain_otherwise (map (λ n. n.now) plain.now ++ own.now ∷ []) (else_of (option_map block_of last.now)) }
 {
     match last {
         Some(body) => is_plain_block(plain, own, body),
@@ -202,8 +200,8 @@ fn is_plain_else(plain: &NameList, own: &[u8], last: &Option<Block>) -> bool
 }
 
 #[cycle(plain_blocks)]
-fn are_plain_handlers(plain: &NameList, own: &[u8], handlers: &[Handler]) -> bool
-    ensures { result ≡ are_plain_handlers (plain.now ++ own.now ∷ []) (handlers_of handlers.now) }
+fn are_plain_handlers(plain: &[&[u8]], own: &[u8], handlers: &[Handler]) -> bool
+    ensures { result ≡ are_plain_handlers (map (λ n. n.now) plain.now ++ own.now ∷ []) (handlers_of handlers.now) }
 {
     for handler in handlers.iter() {
         if !is_plain_block(plain, own, &handler.body) {

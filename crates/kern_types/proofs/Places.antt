@@ -1,5 +1,5 @@
 -- The place of a function, and how many functions a typed program has.
-use Rattle.std.proofs.Common.{◌≡◌, ℕ, ◌+◌, ◌<◌, ◌≤◌, List, [], ◌∷◌, ◌++◌, map, length, Bool, true, false, cond, nat_le, ◌||◌, is_some, Some, IsTrue, refl, sym, ap, arith, bytes_eq, length-append}
+use Rattle.std.proofs.Common.{◌≡◌, ℕ, ◌+◌, ◌<◌, ◌≤◌, List, [], ◌∷◌, ◌++◌, map, length, Bool, true, false, cond, if◌then◌else◌, nat_le, ◌||◌, is_some, Some, IsTrue, refl, sym, ap, arith, bytes_eq, length-append}
 use Rattle.std.specs.List.{position, prefix_len}
 use Rattle.std.proofs.lemmas.List.{length-map}
 use Rattle.std.proofs.lemmas.List.Quantifiers.{position-Some}
@@ -7,7 +7,7 @@ use Rattle.kern_syntax.specs.declared.program.Function.{Function}
 use Rattle.kern_syntax.specs.Tree.{Bytes, FunctionTree, ProgramTree}
 use Rattle.kern_syntax.specs.TreeOf.{function_of, tree_of}
 use Rattle.kern_expression_types.specs.declared.fault.TypeKind.{TypeKind}
-use Rattle.kern_plain.specs.Plain.{with_plain}
+use Rattle.kern_plain.specs.Plain.{is_in, is_plain_function, with_plain}
 use Rattle.kern_expression_types.specs.declared.fault.TypeKind.TheVariants as K
 use Rattle.kern_expression_types.specs.Before.{is_reserved}
 use Rattle.kern_calls.specs.Types.{function_named}
@@ -41,7 +41,7 @@ not-refused true line kind h = absurd (cc)
 not-refused false line kind h = refl
 
 -- a function that has no fault stands behind fewer than the most
-few-before : (program earlier : ProgramTree) (plain : List Bytes) (f : FunctionTree) → IsTrue (is_well (function_verdict program earlier plain f)) → length earlier < 256
+pub few-before : (program earlier : ProgramTree) (plain : List Bytes) (f : FunctionTree) → IsTrue (is_well (function_verdict program earlier plain f)) → length earlier < 256
 few-before program earlier plain f h =
     let second = well-after (refuse_if (is_some (function_named earlier f.name) || is_reserved f.name) f.line K.Name) (refuse_if (nat_le most_functions (length earlier)) f.line K.Size >> body_verdict (body_functions program earlier plain f) f) h in
     let few = not-refused (nat_le most_functions (length earlier)) f.line K.Size (well-whole (refuse_if (nat_le most_functions (length earlier)) f.line K.Size) (λ a. body_verdict (body_functions program earlier plain f) f) second) in
@@ -65,3 +65,12 @@ few-places (f ∷ functions) name place typed found =
     let all = few-behind (tree_of (f ∷ functions)) [] [] (tree_of (f ∷ functions)) (omega arith) typed in
     let same : length (tree_of (f ∷ functions)) ≡ length (f ∷ functions) = length-map (f ∷ functions) function_of in
     omega (arith, within, all, same)
+
+-- at most one function more is plain
+few-with : (plain : List Bytes) (name : Bytes) (is_plain is_there : Bool) → length (if is_plain then (if is_there then plain else plain ++ name ∷ []) else plain) ≤ length plain + 1
+few-with plain name true true = omega arith
+few-with plain name true false = omega (arith, length-append plain (name ∷ []))
+few-with plain name false is_there = omega arith
+
+pub few-plain : (plain : List Bytes) (f : FunctionTree) → length (with_plain plain f) ≤ length plain + 1
+few-plain plain f = few-with plain f.name (is_plain_function plain f) (is_in plain f.name)

@@ -1,18 +1,18 @@
 // The checker of kernels.
 
-ghost use Rattle.std.specs.Prelude.{◌≡◌, IfOk, IfErr, OnOk, [], position, bytes_eq};
+ghost use Rattle.std.specs.Prelude.{◌≡◌, IfOk, IfErr, OnOk, [], map, position, bytes_eq};
 ghost use Rattle.kern_syntax.specs.Grammatical.{IsGrammatical};
 ghost use Rattle.kern_syntax.specs.Spellable.{IsSpellableProgram};
 ghost use Rattle.kern_syntax.specs.TreeOf.{tree_of};
-ghost use Rattle.kern_expression_types.specs.Answers.{IsEndOf, IsMemory};
+ghost use Rattle.kern_expression_types.specs.Verdicts.{fault};
 ghost use Rattle.kern_plain.specs.PlainFunctions.{plain_names};
 ghost use Rattle.kern_types.specs.Programs.{IsTyped, program_verdict, place_of_function};
 
 use crate::program::check_functions;
-use kern_expression_types::{NameList, TypeEnd};
+use kern_expression_types::TypeFault;
 use kern_plain::plain_functions;
 use kern_syntax::{Function, Program};
-use std::alloc::Global;
+use std::alloc::{AllocError, Global};
 use std::marker::Model;
 
 /// A program of the grammar, with its limits and those of its tokens, that is typed. Contracts see it as its functions.
@@ -39,14 +39,14 @@ impl Model for Checked {
 }
 
 /// Checks the types of a program of the grammar, whose names, texts and integers are those of tokens, by the rules of
-/// `docs/LANGUAGE.md`, and keeps it. Else the first fault in the order of evaluation is told with its line, or memory
-/// ran out.
-pub fn check(alloc: Global, program: Program) -> Result<Checked, TypeEnd>
+/// `docs/LANGUAGE.md`, and keeps it. Else the first fault in the order of evaluation is told with its line, also where
+/// memory is refused.
+pub fn check(alloc: Global, program: Program) -> Result<Checked, TypeFault>
     requires grammatical { IsGrammatical (tree_of program) }
     requires spellable { IsSpellableProgram (tree_of program) }
     ensures kept { IfOk result (λ checked. checked ≡ program) }
     ensures typed { OnOk result (IsTyped (tree_of program)) }
-    ensures fault { IfErr result (λ end. IsEndOf end (program_verdict (tree_of program))) }
+    ensures fault { IfErr result (λ found. program_verdict (tree_of program) ≡ fault found.line found.kind) }
 {
     check_functions(alloc, program.functions())?;
     Ok(Checked { program })
@@ -72,10 +72,9 @@ impl Checked {
     }
 
     /// The names of the functions that are plain, in the order of the text: those without a live call and without a
-    /// record block, also in what they call. It ends early only for want of memory.
-    pub fn plain_functions(&self, alloc: Global) -> Result<NameList, TypeEnd>
-        ensures names { IfOk result (λ plain. plain ≡ plain_names [] (tree_of self.now)) }
-        ensures memory { IfErr result IsMemory }
+    /// record block, also in what they call. `Err` tells want of memory.
+    pub fn plain_functions(&self, alloc: Global) -> Result<Vec<&[u8]>, AllocError>
+        ensures names { IfOk result (λ plain. map (λ n. n.now) plain.items ≡ plain_names [] (tree_of self.now)) }
     {
         plain_functions(alloc, self.program.functions())
     }

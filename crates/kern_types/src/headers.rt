@@ -8,28 +8,20 @@ ghost use Rattle.kern_types.specs.Programs.{body_place, body_verdict, parameter_
 
 use crate::blocks::check_block;
 use kern_calls::declared_type;
-use kern_expression_types::{Known, Locals, Place, TypeEnd, TypeKind, refuse_if};
+use kern_expression_types::{Known, Locals, Place, TypeFault, TypeKind, refuse_if};
 use kern_syntax::{Function, Parameter};
-use std::alloc::Global;
 
 // The most parameters of a function.
 const MOST_PARAMETERS: usize = 8;
 
 /// Checks the parameters and the body of a function.
-pub fn check_body(alloc: Global, known: &Known<'_>, function: &Function) -> Result<(), TypeEnd>
+pub fn check_body(known: &Known<'_>, function: &Function) -> Result<(), TypeFault>
     ensures { Passes result (body_verdict (functions_of known.now) (function_of function.now)) }
 {
-    let mut names = Locals::new(alloc);
+    let mut names = Locals::new();
     let parameters = function.parameters.items();
-    check_parameters(alloc, known, function.line, &mut names, parameters)?;
-    check_block(
-        alloc,
-        known,
-        body_place(function),
-        &mut names,
-        &function.body,
-    )?;
-    Ok(())
+    check_parameters(known, function.line, &mut names, parameters)?;
+    check_block(known, body_place(function), &mut names, &function.body)
 }
 
 // The place of a function's body.
@@ -45,41 +37,40 @@ fn body_place(function: &Function) -> Place
     }
 }
 
-fn check_parameters(
-    alloc: Global,
+fn check_parameters<'a>(
     known: &Known<'_>,
     line: u32,
-    names: &mut Locals,
-    parameters: &[Parameter],
-) -> Result<(), TypeEnd>
+    names: &mut Locals<'a>,
+    parameters: &'a [Parameter],
+) -> Result<(), TypeFault>
     ensures { Leaves result names.new (parameters_verdict (functions_of known.now) line (map parameter_of parameters.now) names.old) }
 {
     for parameter in parameters.iter() {
-        check_parameter(alloc, known, line, names, parameter)?;
+        check_parameter(known, line, names, parameter)?;
     }
     Ok(())
 }
 
-fn check_parameter(
-    alloc: Global,
+fn check_parameter<'a>(
     known: &Known<'_>,
     line: u32,
-    names: &mut Locals,
-    parameter: &Parameter,
-) -> Result<(), TypeEnd>
+    names: &mut Locals<'a>,
+    parameter: &'a Parameter,
+) -> Result<(), TypeFault>
     ensures { Leaves result names.new (parameter_verdict (functions_of known.now) line (parameter_of parameter.now) names.old) }
 {
     let name = parameter.name.bytes();
     let declared = declared_type(parameter.declared);
     match names.get(name) {
-        Some(_) => Err(TypeEnd::Fault {
+        Some(_) => Err(TypeFault {
             line,
             kind: TypeKind::Name,
         }),
         None => {
             refuse_if(known.is_taken(name), line, TypeKind::Name)?;
             refuse_if(names.len() >= MOST_PARAMETERS, line, TypeKind::Size)?;
-            names.add(alloc, name, declared)
+            names.add(name, declared);
+            Ok(())
         }
     }
 }

@@ -8,4 +8,4 @@ mod program;
 mod statements;
 
 pub use checking::{Checked, check};
-pub use kern_expression_types::{NameList, TypeEnd, TypeFault, TypeKind};
+pub use kern_expression_types::{TypeFault, TypeKind};

@@ -1,17 +1,17 @@
 // The types of programs.
 
-ghost use Rattle.std.specs.Prelude.{◌≡◌, ◌+◌, [], List, ℕ, Some, codes, is_some, length, slice_get, take, IfOk, IfErr, OnOk};
+ghost use Rattle.std.specs.Prelude.{◌≡◌, ◌||◌, [], Some, codes, is_some, map, slice_get, take};
 ghost use Rattle.kern_syntax.specs.TreeOf.{function_of, tree_of};
-ghost use Rattle.kern_expression_types.specs.Answers.{Finds, Passes, IsMemory};
-ghost use Rattle.kern_expression_types.specs.Before.{is_in};
-ghost use Rattle.kern_expression_types.specs.Numbered.{numbered};
+ghost use Rattle.kern_expression_types.specs.Answers.{Finds, Passes};
+ghost use Rattle.kern_expression_types.specs.Before.{is_reserved};
+ghost use Rattle.kern_expression_types.specs.FunctionNames.{function_names};
+ghost use Rattle.kern_expression_types.specs.Verdicts.{refuse_if};
 ghost use Rattle.kern_types.specs.Programs.{function_verdict, main_verdict, program_verdict};
 ghost use Rattle.kern_calls.specs.Types.{function_named};
 
 use crate::headers::check_body;
-use kern_expression_types::{
-    FunctionNumbers, Known, NameList, TypeEnd, TypeFault, TypeKind, is_reserved, refuse_if,
-};
+use arrayvec::ArrayVec;
+use kern_expression_types::{FunctionNames, Known, TypeFault, TypeKind, is_reserved, refuse_if};
 use kern_plain::note_plain;
 use kern_syntax::Function;
 use std::alloc::Global;
@@ -19,85 +19,78 @@ use std::alloc::Global;
 // The most functions of a program.
 const MOST_FUNCTIONS: usize = 256;
 
-/// Checks the functions of a program.
-pub fn check_functions(alloc: Global, functions: &[Function]) -> Result<(), TypeEnd>
+/// Checks the functions of a program. It needs no memory: where some is refused, names are looked up slowly.
+pub fn check_functions(alloc: Global, functions: &[Function]) -> Result<(), TypeFault>
     ensures { Passes result (program_verdict (tree_of functions.now)) }
 {
-    let all = names_of(alloc, functions)?;
-    let mut callable = FunctionNumbers::new(alloc);
-    let mut plain = NameList::new(alloc);
-    check_each(alloc, functions, &all, &mut callable, &mut plain)
+    let all = FunctionNames::of(alloc, functions);
+    let mut plain = ArrayVec::new();
+    check_each(functions, &all, &mut plain)
 }
 
 // Checks one function after another, and then that there is a `main`. It owns none of the lists: dropping them on each
 // way out would be dear to prove.
-fn check_each(
-    alloc: Global,
-    functions: &[Function],
-    all: &NameList,
-    callable: &mut FunctionNumbers,
-    plain: &mut NameList,
-) -> Result<(), TypeEnd>
-    requires all_named { (name : List ℕ) → is_in all.now name ≡ is_some (function_named (tree_of functions.now) name) }
-    requires none_callable { callable.old ≡ [] }
-    requires none_plain { plain.old ≡ [] }
+fn check_each<'a>(
+    functions: &'a [Function],
+    all: &FunctionNames<'a>,
+    plain: &mut ArrayVec<&'a [u8], MOST_FUNCTIONS>,
+) -> Result<(), TypeFault>
+    requires all_named { all.now ≡ function_names functions.now }
+    requires none_plain { plain.old.items ≡ [] }
     ensures { Passes result (program_verdict (tree_of functions.now)) }
 {
-    for function in functions.iter() {
-        check_function(alloc, functions, all, callable, plain, function)?;
-        note_plain(alloc, plain, function)?;
+    for (number, function) in functions.iter().enumerate() {
+        check_function(functions, all, number, plain.as_slice(), function)?;
+        note_plain(plain, function);
     }
-    Ok(check_main(functions)?)
+    check_main(functions)
 }
 
-// The names of all functions.
-fn names_of(alloc: Global, functions: &[Function]) -> Result<NameList, TypeEnd>
-    ensures names { IfOk result (λ all. (name : List ℕ) → is_in all name ≡ is_some (function_named (tree_of functions.now) name)) }
-    ensures memory { IfErr result IsMemory }
-{
-    let mut all = NameList::new(alloc);
-    for function in functions.iter() {
-        all.add(alloc, function.name.bytes())?;
-    }
-    Ok(all)
-}
-
-// Checks a function behind those that are callable, and adds it to them.
+// Checks a function behind a number of others, of which some are plain.
 fn check_function(
-    alloc: Global,
     functions: &[Function],
-    all: &NameList,
-    callable: &mut FunctionNumbers,
-    plain: &NameList,
+    all: &FunctionNames<'_>,
+    number: usize,
+    plain: &[&[u8]],
     function: &Function,
-) -> Result<(), TypeEnd>
-    requires all_named { (name : List ℕ) → is_in all.now name ≡ is_some (function_named (tree_of functions.now) name) }
-    requires callable_numbered { callable.old ≡ numbered 0 (take (length callable.old) functions.now) }
-    requires next { slice_get functions.now (length callable.old) ≡ Some function.now }
-    ensures passes { Passes result
-        (function_verdict (tree_of functions.now) (tree_of (take (length callable.old) functions.now)) plain.now (function_of function.now)) }
-    ensures added { OnOk result (callable.new ≡ numbered 0 (take (length callable.old + 1) functions.now)) }
+) -> Result<(), TypeFault>
+    requires all_named { all.now ≡ function_names functions.now }
+    requires next { slice_get functions.now number ≡ Some function.now }
+    ensures { Passes result
+        (function_verdict (tree_of functions.now) (tree_of (take number functions.now)) (map (λ name. name.now) plain.now) (function_of function.now)) }
+{
+    check_name(&functions[..number], function)?;
+    refuse_if(number >= MOST_FUNCTIONS, function.line, TypeKind::Size)?;
+    let known = Known {
+        functions,
+        all,
+        callable: number + 1,
+        plain,
+    };
+    check_body(&known, function)
+}
+
+ghost use Rattle.kern_expression_types.specs.declared.fault.TypeKind.TheVariants as K;
+
+// Checks that the name of a function is no earlier one's and not reserved.
+fn check_name(earlier: &[Function], function: &Function) -> Result<(), TypeFault>
+    ensures { Finds result (refuse_if (is_some (function_named (tree_of earlier.now) function.now.name) || is_reserved function.now.name) function.now.line K.Name) }
 {
     let name = function.name.bytes();
-    let number = callable.len();
-    match callable.get(name) {
-        Some(_) => Err(TypeEnd::Fault {
-            line: function.line,
-            kind: TypeKind::Name,
-        }),
-        None => {
-            refuse_if(is_reserved(name), function.line, TypeKind::Name)?;
-            refuse_if(number >= MOST_FUNCTIONS, function.line, TypeKind::Size)?;
-            callable.add(alloc, name, number)?;
-            let known = Known {
-                functions,
-                all,
-                callable,
-                plain,
-            };
-            check_body(alloc, &known, function)
-        }
-    }
+    let is_taken = is_named(earlier, name) || is_reserved(name);
+    refuse_if(is_taken, function.line, TypeKind::Name)
+}
+
+ghost use Rattle.std.specs.Prelude.{bytes_eq};
+ghost use Rattle.std.specs.List.{list_any};
+
+// Whether one of some functions has a name.
+fn is_named(functions: &[Function], name: &[u8]) -> bool
+    ensures { result ≡ list_any (λ f. bytes_eq name.now f.name) functions.now }
+{
+    functions
+        .iter()
+        .any(|function| name == function.name.bytes())
 }
 
 // Checks that there is a function `main` without parameters.

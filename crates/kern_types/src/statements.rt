@@ -2,19 +2,18 @@
 
 ghost use Rattle.std.specs.Prelude.{Some, None, map};
 ghost use Rattle.kern_syntax.specs.TreeOf.{expression_of, statement_of};
-ghost use Rattle.kern_expression_types.specs.Answers.{Finds, Gives, GivesItems, Leaves};
-ghost use Rattle.kern_expression_types.specs.Expressions.{condition_verdict, elements_verdict, fitting_verdict};
+ghost use Rattle.kern_expression_types.specs.Answers.{Finds, Leaves};
+ghost use Rattle.kern_expression_types.specs.Expressions.{condition_verdict, fitting_verdict};
 ghost use Rattle.kern_expression_types.specs.KnownOf.{functions_of};
 ghost use Rattle.kern_types.specs.Statements.{alone_verdict, array_verdict, assigned_verdict, augmented_verdict, bounds_verdict, element_assigned_verdict, element_augmented_verdict, kept_verdict, listed_verdict, loop_verdict, name_augmented_verdict, range_verdict, repeated_verdict, return_verdict, simple_verdict, turn_verdict, value_assigned_verdict, value_verdict};
 
 use kern_calls::{ValueType, Wanted, wider};
 use kern_expression_types::{
-    Given, Known, Locals, Place, TypeEnd, TypeFault, TypeKind, as_condition, as_integer,
-    as_statement, check_element, check_expression, check_variable, declared_wanted, fit, fit_each,
+    Given, Known, Locals, Place, TypeFault, TypeKind, as_condition, as_integer, as_statement,
+    check_element, check_elements, check_expression, check_variable, declared_wanted, fit,
     kept_misfit, refuse_if, refuse_some, scalar_of,
 };
 use kern_syntax::{Expr, StmtKind, Target};
-use std::alloc::Global;
 
 // The most names of a function, its parameters among them.
 const MOST_NAMES: usize = 64;
@@ -23,36 +22,35 @@ const MOST_NAMES: usize = 64;
 const LONGEST_ARRAY: u64 = 512;
 
 /// Checks a statement without a block.
-pub fn check_simple(
-    alloc: Global,
+pub fn check_simple<'a>(
     known: &Known<'_>,
     place: Place,
-    names: &mut Locals,
-    statement: &StmtKind,
-) -> Result<(), TypeEnd>
+    names: &mut Locals<'a>,
+    statement: &'a StmtKind,
+) -> Result<(), TypeFault>
     ensures { Leaves result names.new (simple_verdict (functions_of known.now) place names.old (statement_of statement.now)) }
 {
     match statement {
-        StmtKind::Break | StmtKind::Continue => Ok(check_turn(place)?),
-        StmtKind::Return(value) => check_return(alloc, known, place, names, value),
-        StmtKind::Evaluate(e) => check_alone(alloc, known, place, names, e),
+        StmtKind::Break | StmtKind::Continue => check_turn(place),
+        StmtKind::Return(value) => check_return(known, place, names, value),
+        StmtKind::Evaluate(e) => check_alone(known, place, names, e),
         StmtKind::Assign(Target::Variable(x), e) => {
-            check_assigned(alloc, known, place, names, x.bytes(), e)
+            check_assigned(known, place, names, x.bytes(), e)
         }
         StmtKind::Assign(Target::Element(x, i), e) => {
-            check_element_assigned(alloc, known, place, names, x.bytes(), i, e)
+            check_element_assigned(known, place, names, x.bytes(), i, e)
         }
         StmtKind::Augmented(Target::Variable(x), _, e) => {
-            check_augmented(alloc, known, place, names, x.bytes(), e)
+            check_augmented(known, place, names, x.bytes(), e)
         }
         StmtKind::Augmented(Target::Element(x, i), _, e) => {
-            check_element_augmented(alloc, known, place, names, x.bytes(), i, e)
+            check_element_augmented(known, place, names, x.bytes(), i, e)
         }
         StmtKind::ArrayRepeat(x, e, count) => {
-            check_repeated(alloc, known, place, names, x.bytes(), e, *count)
+            check_repeated(known, place, names, x.bytes(), e, *count)
         }
         StmtKind::ArrayList(x, elements) => {
-            check_listed(alloc, known, place, names, x.bytes(), elements)
+            check_listed(known, place, names, x.bytes(), elements)
         }
         _ => Ok(()),
     }
@@ -67,29 +65,27 @@ fn check_turn(place: Place) -> Result<(), TypeFault>
 ghost use Rattle.std.specs.Prelude.{option_map};
 
 fn check_return(
-    alloc: Global,
     known: &Known<'_>,
     place: Place,
-    names: &Locals,
+    names: &Locals<'_>,
     value: &Option<Expr>,
-) -> Result<(), TypeEnd>
-    ensures { Leaves result tt (return_verdict (functions_of known.now) place names.now (option_map expression_of value.now)) }
+) -> Result<(), TypeFault>
+    ensures { Finds result (return_verdict (functions_of known.now) place names.now (option_map expression_of value.now)) }
 {
-    check_value(alloc, known, place, names, value)?;
-    Ok(refuse_if(!place.may_return, place.line, TypeKind::BlockExit)?)
+    check_value(known, place, names, value)?;
+    refuse_if(!place.may_return, place.line, TypeKind::BlockExit)
 }
 
 // The value of a `return`, against the function's result.
 fn check_value(
-    alloc: Global,
     known: &Known<'_>,
     place: Place,
-    names: &Locals,
+    names: &Locals<'_>,
     value: &Option<Expr>,
-) -> Result<(), TypeEnd>
-    ensures { Leaves result tt (value_verdict (functions_of known.now) place names.now place.result (option_map expression_of value.now)) }
+) -> Result<(), TypeFault>
+    ensures { Finds result (value_verdict (functions_of known.now) place names.now place.result (option_map expression_of value.now)) }
 {
-    let arity = TypeEnd::Fault {
+    let arity = TypeFault {
         line: place.line,
         kind: TypeKind::Arity,
     };
@@ -99,100 +95,94 @@ fn check_value(
             Some(_) => Err(arity),
         },
         Some(e) => {
-            let given = check_expression(alloc, known, place, names, e)?;
+            let given = check_expression(known, place, names, e)?;
             match place.result {
                 None => Err(arity),
-                Some(declared) => Ok(fit(place.line, declared_wanted(declared), given)?),
+                Some(declared) => fit(place.line, declared_wanted(declared), given),
             }
         }
     }
 }
 
 fn check_alone(
-    alloc: Global,
     known: &Known<'_>,
     place: Place,
-    names: &Locals,
+    names: &Locals<'_>,
     e: &Expr,
-) -> Result<(), TypeEnd>
-    ensures { Leaves result tt (alone_verdict (functions_of known.now) place names.now (expression_of e.now)) }
+) -> Result<(), TypeFault>
+    ensures { Finds result (alone_verdict (functions_of known.now) place names.now (expression_of e.now)) }
 {
-    let given = check_expression(alloc, known, place, names, e)?;
-    Ok(as_statement(place.line, given)?)
+    let given = check_expression(known, place, names, e)?;
+    as_statement(place.line, given)
 }
 
 /// Checks a condition.
 pub fn check_condition(
-    alloc: Global,
     known: &Known<'_>,
     place: Place,
-    names: &Locals,
+    names: &Locals<'_>,
     e: &Expr,
-) -> Result<(), TypeEnd>
-    ensures { Leaves result tt (condition_verdict (functions_of known.now) place names.now (expression_of e.now)) }
+) -> Result<(), TypeFault>
+    ensures { Finds result (condition_verdict (functions_of known.now) place names.now (expression_of e.now)) }
 {
-    let given = check_expression(alloc, known, place, names, e)?;
-    Ok(as_condition(place.line, given)?)
+    let given = check_expression(known, place, names, e)?;
+    as_condition(place.line, given)
 }
 
 // An expression that fits an int64.
 fn check_fitting(
-    alloc: Global,
     known: &Known<'_>,
     place: Place,
-    names: &Locals,
+    names: &Locals<'_>,
     e: &Expr,
-) -> Result<(), TypeEnd>
-    ensures { Leaves result tt (fitting_verdict (functions_of known.now) place names.now W.Int64 (expression_of e.now)) }
+) -> Result<(), TypeFault>
+    ensures { Finds result (fitting_verdict (functions_of known.now) place names.now W.Int64 (expression_of e.now)) }
 {
-    let given = check_expression(alloc, known, place, names, e)?;
-    Ok(fit(place.line, Wanted::Int64, given)?)
+    let given = check_expression(known, place, names, e)?;
+    fit(place.line, Wanted::Int64, given)
 }
 
 ghost use Rattle.kern_calls.specs.declared.wanted.Wanted.TheVariants as W;
 
-fn check_assigned(
-    alloc: Global,
+fn check_assigned<'a>(
     known: &Known<'_>,
     place: Place,
-    names: &mut Locals,
-    name: &[u8],
+    names: &mut Locals<'a>,
+    name: &'a [u8],
     value: &Expr,
-) -> Result<(), TypeEnd>
+) -> Result<(), TypeFault>
     ensures { Leaves result names.new (value_assigned_verdict (functions_of known.now) place names.old name.now (expression_of value.now)) }
 {
-    let given = check_expression(alloc, known, place, names, value)?;
-    assign(alloc, known, place, names, name, scalar_of(given))
+    let given = check_expression(known, place, names, value)?;
+    assign(known, place, names, name, scalar_of(given))
 }
 
 // A value of a type, if it is one that a name can take, is assigned to a name.
-fn assign(
-    alloc: Global,
+fn assign<'a>(
     known: &Known<'_>,
     place: Place,
-    names: &mut Locals,
-    name: &[u8],
+    names: &mut Locals<'a>,
+    name: &'a [u8],
     value: Option<ValueType>,
-) -> Result<(), TypeEnd>
+) -> Result<(), TypeFault>
     ensures { Leaves result names.new (assigned_verdict (functions_of known.now) place names.old name.now value) }
 {
     refuse_if(known.is_taken(name), place.line, TypeKind::Name)?;
-    keep(alloc, place, names, name, value)
+    keep(place, names, name, value)
 }
 
 ghost use Rattle.kern_calls.specs.Calls.{look_up};
 
 // A new name takes the type of its first value, and a later value has to fit it.
-fn keep(
-    alloc: Global,
+fn keep<'a>(
     place: Place,
-    names: &mut Locals,
-    name: &[u8],
+    names: &mut Locals<'a>,
+    name: &'a [u8],
     value: Option<ValueType>,
-) -> Result<(), TypeEnd>
+) -> Result<(), TypeFault>
     ensures { Leaves result names.new (kept_verdict place names.old name.now value (look_up names.old name.now)) }
 {
-    let mismatch = TypeEnd::Fault {
+    let mismatch = TypeFault {
         line: place.line,
         kind: TypeKind::Mismatch,
     };
@@ -200,47 +190,48 @@ fn keep(
         None => {
             refuse_if(names.len() >= MOST_NAMES, place.line, TypeKind::Size)?;
             match value {
-                Some(kind) => names.add(alloc, name, kind),
+                Some(kind) => {
+                    names.add(name, kind);
+                    Ok(())
+                }
                 None => Err(mismatch),
             }
         }
         Some(held) => match value {
-            Some(kind) => Ok(refuse_some(kept_misfit(held, kind), place.line)?),
+            Some(kind) => refuse_some(kept_misfit(held, kind), place.line),
             None => Err(mismatch),
         },
     }
 }
 
 fn check_element_assigned(
-    alloc: Global,
     known: &Known<'_>,
     place: Place,
-    names: &Locals,
+    names: &Locals<'_>,
     array: &[u8],
     index: &Expr,
     value: &Expr,
-) -> Result<(), TypeEnd>
-    ensures { Leaves result tt (element_assigned_verdict (functions_of known.now) place names.now array.now (expression_of index.now) (expression_of value.now)) }
+) -> Result<(), TypeFault>
+    ensures { Finds result (element_assigned_verdict (functions_of known.now) place names.now array.now (expression_of index.now) (expression_of value.now)) }
 {
-    let given = check_expression(alloc, known, place, names, value)?;
-    let index = check_expression(alloc, known, place, names, index)?;
+    let given = check_expression(known, place, names, value)?;
+    let index = check_expression(known, place, names, index)?;
     check_element(place.line, names, array, index)?;
-    Ok(fit(place.line, Wanted::Int64, given)?)
+    fit(place.line, Wanted::Int64, given)
 }
 
 fn check_augmented(
-    alloc: Global,
     known: &Known<'_>,
     place: Place,
-    names: &Locals,
+    names: &Locals<'_>,
     name: &[u8],
     value: &Expr,
-) -> Result<(), TypeEnd>
-    ensures { Leaves result tt (name_augmented_verdict (functions_of known.now) place names.now name.now (expression_of value.now)) }
+) -> Result<(), TypeFault>
+    ensures { Finds result (name_augmented_verdict (functions_of known.now) place names.now name.now (expression_of value.now)) }
 {
     let held = check_variable(place.line, names, name)?;
-    let added = check_expression(alloc, known, place, names, value)?;
-    Ok(augment(place.line, held, added)?)
+    let added = check_expression(known, place, names, value)?;
+    augment(place.line, held, added)
 }
 
 // A number is added to what a name holds.
@@ -253,134 +244,109 @@ fn augment(line: u32, held: Given, added: Given) -> Result<(), TypeFault>
 }
 
 fn check_element_augmented(
-    alloc: Global,
     known: &Known<'_>,
     place: Place,
-    names: &Locals,
+    names: &Locals<'_>,
     array: &[u8],
     index: &Expr,
     value: &Expr,
-) -> Result<(), TypeEnd>
-    ensures { Leaves result tt (element_augmented_verdict (functions_of known.now) place names.now array.now (expression_of index.now) (expression_of value.now)) }
+) -> Result<(), TypeFault>
+    ensures { Finds result (element_augmented_verdict (functions_of known.now) place names.now array.now (expression_of index.now) (expression_of value.now)) }
 {
-    let index = check_expression(alloc, known, place, names, index)?;
+    let index = check_expression(known, place, names, index)?;
     check_element(place.line, names, array, index)?;
-    check_fitting(alloc, known, place, names, value)
+    check_fitting(known, place, names, value)
 }
 
-fn check_repeated(
-    alloc: Global,
+fn check_repeated<'a>(
     known: &Known<'_>,
     place: Place,
-    names: &mut Locals,
-    name: &[u8],
+    names: &mut Locals<'a>,
+    name: &'a [u8],
     value: &Expr,
     count: u64,
-) -> Result<(), TypeEnd>
+) -> Result<(), TypeFault>
     ensures { Leaves result names.new (repeated_verdict (functions_of known.now) place names.old name.now (expression_of value.now) count) }
 {
-    check_fitting(alloc, known, place, names, value)?;
-    assign_array(alloc, known, place, names, name, count)
+    check_fitting(known, place, names, value)?;
+    assign_array(known, place, names, name, count)
 }
 
-fn check_listed(
-    alloc: Global,
+fn check_listed<'a>(
     known: &Known<'_>,
     place: Place,
-    names: &mut Locals,
-    name: &[u8],
+    names: &mut Locals<'a>,
+    name: &'a [u8],
     elements: &[Expr],
-) -> Result<(), TypeEnd>
+) -> Result<(), TypeFault>
     ensures { Leaves result names.new (listed_verdict (functions_of known.now) place names.old name.now (map expression_of elements.now)) }
 {
-    let given = check_elements(alloc, known, place, names, elements)?;
-    fit_each(place.line, Wanted::Int64, &given)?;
-    assign_array(alloc, known, place, names, name, elements.len() as u64)
-}
-
-// What some expressions give, from left to right.
-fn check_elements(
-    alloc: Global,
-    known: &Known<'_>,
-    place: Place,
-    names: &Locals,
-    elements: &[Expr],
-) -> Result<Vec<Given>, TypeEnd>
-    ensures { GivesItems result (elements_verdict (functions_of known.now) place names.now (map expression_of elements.now)) }
-{
-    let mut given = Vec::new(alloc);
-    for element in elements.iter() {
-        given.push(check_expression(alloc, known, place, names, element)?)?;
-    }
-    Ok(given)
+    check_elements(known, place, names, Wanted::Int64, elements)?;
+    assign_array(known, place, names, name, elements.len() as u64)
 }
 
 // An array of a length is assigned to a name.
-fn assign_array(
-    alloc: Global,
+fn assign_array<'a>(
     known: &Known<'_>,
     place: Place,
-    names: &mut Locals,
-    name: &[u8],
+    names: &mut Locals<'a>,
+    name: &'a [u8],
     count: u64,
-) -> Result<(), TypeEnd>
+) -> Result<(), TypeFault>
     ensures { Leaves result names.new (array_verdict (functions_of known.now) place names.old name.now count) }
 {
     if count < 1 || count > LONGEST_ARRAY {
-        return Err(TypeEnd::Fault {
+        return Err(TypeFault {
             line: place.line,
             kind: TypeKind::Size,
         });
     }
     let kind = ValueType::Array(count as u16);
-    assign(alloc, known, place, names, name, Some(kind))
+    assign(known, place, names, name, Some(kind))
 }
 
 /// Checks the header of a loop from 0.
-pub fn check_loop_to(
-    alloc: Global,
+pub fn check_loop_to<'a>(
     known: &Known<'_>,
     place: Place,
-    names: &mut Locals,
-    name: &[u8],
+    names: &mut Locals<'a>,
+    name: &'a [u8],
     to: &Expr,
-) -> Result<(), TypeEnd>
+) -> Result<(), TypeFault>
     ensures { Leaves result names.new (loop_verdict (functions_of known.now) place names.old name.now None (expression_of to.now)) }
 {
-    let to = check_expression(alloc, known, place, names, to)?;
+    let to = check_expression(known, place, names, to)?;
     let kind = as_integer(place.line, to)?;
-    assign(alloc, known, place, names, name, Some(kind))
+    assign(known, place, names, name, Some(kind))
 }
 
 /// Checks the header of a loop between two bounds.
-pub fn check_loop_from_to(
-    alloc: Global,
+pub fn check_loop_from_to<'a>(
     known: &Known<'_>,
     place: Place,
-    names: &mut Locals,
-    name: &[u8],
+    names: &mut Locals<'a>,
+    name: &'a [u8],
     from: &Expr,
     to: &Expr,
-) -> Result<(), TypeEnd>
+) -> Result<(), TypeFault>
     ensures { Leaves result names.new (loop_verdict (functions_of known.now) place names.old name.now (Some (expression_of from.now)) (expression_of to.now)) }
 {
-    let kind = check_range(alloc, known, place, names, from, to)?;
-    assign(alloc, known, place, names, name, Some(kind))
+    let kind = check_range(known, place, names, from, to)?;
+    assign(known, place, names, name, Some(kind))
 }
 
 fn check_range(
-    alloc: Global,
     known: &Known<'_>,
     place: Place,
-    names: &Locals,
+    names: &Locals<'_>,
     from: &Expr,
     to: &Expr,
-) -> Result<ValueType, TypeEnd>
-    ensures { Gives result (range_verdict (functions_of known.now) place names.now (Some (expression_of from.now)) (expression_of to.now)) }
+) -> Result<ValueType, TypeFault>
+    ensures { Finds result (range_verdict (functions_of known.now) place names.now (Some (expression_of from.now)) (expression_of to.now)) }
 {
-    let from = check_expression(alloc, known, place, names, from)?;
-    let to = check_expression(alloc, known, place, names, to)?;
-    Ok(check_bounds(place.line, from, to)?)
+    let from = check_expression(known, place, names, from)?;
+    let to = check_expression(known, place, names, to)?;
+    check_bounds(place.line, from, to)
 }
 
 fn check_bounds(line: u32, from: Given, to: Given) -> Result<ValueType, TypeFault>

@@ -13,16 +13,15 @@ use Rattle.kern_parser.specs.declared.parsing.SyntaxEnd.{SyntaxEnd}
 use Rattle.kern_parser.specs.declared.parsing.SyntaxEnd.TheVariants as S
 use Rattle.kern_syntax.specs.Nodes.{program_nodes}
 use Rattle.kern_syntax.specs.Tree.{Bytes, ProgramTree}
-use Rattle.kern_expression_types.specs.Answers as TypeAnswers
 use Rattle.kern_expression_types.specs.Verdicts as V
-use Rattle.kern_expression_types.specs.declared.fault.TypeEnd.{TypeEnd}
-use Rattle.kern_expression_types.specs.declared.fault.TypeEnd.TheVariants as T
+use Rattle.kern_expression_types.specs.declared.fault.TypeFault.{TypeFault}
 use Rattle.kern_expression_types.specs.declared.fault.TypeKind.{TypeKind}
 use Rattle.kern_types.specs.Programs.{IsTyped, program_verdict}
 use Rattle.core_code.specs.Ends as CodeAnswers
 use Rattle.core_code.specs.declared.end.CodeEnd.{CodeEnd}
 use Rattle.core_code.specs.declared.end.CodeEnd.TheVariants as C
-use Rattle.lab_kits.specs.Ends.{IsEndFor, end_of_code, end_of_tokens, end_of_tree, end_of_types}
+use Rattle.lab_kits.specs.Ends.{IsEndFor, end_of_code, end_of_tokens, end_of_tree}
+use Rattle.lab_kits.specs.declared.end.PrepareEnd.TheVariants.{Refused}
 use Rattle.lab_kits.specs.Texts.{IsAnyKernelText, IsKernelText, IsOnlyKernelText, IsTextOf}
 
 -- a program that is typed has no fault
@@ -50,10 +49,9 @@ module _ (text : Bytes) where
       same-program other taken = only other (tree-of other taken.is_text)
 
       -- a tree that isn't typed
-      pub types-end : (end : TypeEnd) → TypeAnswers.IsEndOf end (program_verdict program) → IsEndFor (IsAnyKernelText text) (end_of_types end)
-      types-end (T.Fault line kind) fault =
-          λ taken. typed-or-fault program line kind (subst IsTyped (sym (same-program taken.0 taken.1)) taken.1.kernel.typed) fault
-      types-end T.Memory memory = tt
+      pub types-end : (found : TypeFault) → program_verdict program ≡ V.fault found.line found.kind → IsEndFor (IsAnyKernelText text) Refused
+      types-end found fault =
+          λ taken. typed-or-fault program found.line found.kind (subst IsTyped (sym (same-program taken.0 taken.1)) taken.1.kernel.typed) fault
 
       -- a program with too many nodes
       pub code-end : (end : CodeEnd) → CodeAnswers.IsEndOf end program → IsEndFor (IsAnyKernelText text) (end_of_code end)

@@ -3,8 +3,6 @@ use Rattle.kern_lexer.specs.declared.fault.LexEnd.{LexEnd}
 use Rattle.kern_lexer.specs.declared.fault.LexEnd.TheVariants as L
 use Rattle.kern_parser.specs.declared.parsing.SyntaxEnd.{SyntaxEnd}
 use Rattle.kern_parser.specs.declared.parsing.SyntaxEnd.TheVariants as S
-use Rattle.kern_expression_types.specs.declared.fault.TypeEnd.{TypeEnd}
-use Rattle.kern_expression_types.specs.declared.fault.TypeEnd.TheVariants as T
 use Rattle.core_code.specs.declared.end.CodeEnd.{CodeEnd}
 use Rattle.core_code.specs.declared.end.CodeEnd.TheVariants as C
 use Rattle.lab_kits.specs.declared.end.PrepareEnd.{PrepareEnd}
@@ -25,12 +23,7 @@ abbrev pub end_of_tree : SyntaxEnd → PrepareEnd
 end_of_tree (S.Fault token) = Refused
 end_of_tree S.Memory = Memory
 
--- a program that isn't typed
-abbrev pub end_of_types : TypeEnd → PrepareEnd
-end_of_types (T.Fault line kind) = Refused
-end_of_types T.Memory = Memory
-
--- and one with too many nodes
+-- and a program with too many nodes
 abbrev pub end_of_code : CodeEnd → PrepareEnd
 end_of_code (C.TooLarge nodes) = Refused
 end_of_code C.Memory = Memory

@@ -3,7 +3,7 @@
 use core_code::CodeEnd;
 use kern_lexer::LexEnd;
 use kern_parser::SyntaxEnd;
-use kern_types::TypeEnd;
+use kern_types::TypeFault;
 
 /// Why a run has no kit.
 #[derive(Clone, Copy, Debug, PartialEq, Eq)]
@@ -42,17 +42,14 @@ impl From<SyntaxEnd> for PrepareEnd {
     }
 }
 
-impl From<TypeEnd> for PrepareEnd {
+impl From<TypeFault> for PrepareEnd {
     ghost use Rattle.std.specs.Prelude.{◌≡◌};
-    ghost use Rattle.lab_kits.specs.Ends.{end_of_types};
+    ghost use Rattle.lab_kits.specs.declared.end.PrepareEnd.TheVariants.{Refused};
 
-    ghost from_gives = { λ end given. given ≡ end_of_types end };
+    ghost from_gives = { λ _ given. given ≡ Refused };
 
-    fn from(end: TypeEnd) -> PrepareEnd {
-        match end {
-            TypeEnd::Fault { .. } => PrepareEnd::Refused,
-            TypeEnd::Memory => PrepareEnd::Memory,
-        }
+    fn from(_: TypeFault) -> PrepareEnd {
+        PrepareEnd::Refused
     }
 }
 

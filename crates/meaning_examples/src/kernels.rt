@@ -2,7 +2,7 @@
 
 use kern_lexer::lex;
 use kern_parser::{SyntaxEnd, parse};
-use kern_types::{Checked, TypeEnd, check};
+use kern_types::{Checked, check};
 use rtio_types::{Reply, Request};
 use std::alloc::{AllocError, Global};
 use std::process::Abort;
@@ -85,7 +85,6 @@ fn checked_of(rt: &impl Abort, alloc: Global, text: &str) -> Result<Checked, Fai
     };
     match check(alloc, program) {
         Ok(checked) => Ok(checked),
-        Err(TypeEnd::Memory) => Err(AllocError.into()),
-        Err(TypeEnd::Fault { line, kind }) => panic!(rt; "{kind:?} in line {line}"),
+        Err(fault) => panic!(rt; "{fault:?}"),
     }
 }

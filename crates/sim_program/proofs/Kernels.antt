@@ -18,10 +18,7 @@ use Rattle.kern_parser.specs.declared.parsing.SyntaxEnd.TheVariants as S
 use Rattle.kern_parser.specs.Answers.{EndsRightly}
 use Rattle.kern_syntax.specs.Tree.{Bytes, ProgramTree}
 use Rattle.kern_syntax.specs.Nodes.{program_nodes, shown}
-use Rattle.kern_expression_types.specs.declared.fault.TypeEnd.{TypeEnd}
-use Rattle.kern_expression_types.specs.declared.fault.TypeEnd.TheVariants as T
 use Rattle.kern_expression_types.specs.declared.fault.TypeKind.{TypeKind}
-use Rattle.kern_expression_types.specs.Answers as TypeAnswers
 use Rattle.kern_expression_types.specs.Verdicts as V
 use Rattle.kern_types.specs.Programs.{IsTyped, program_verdict}
 use Rattle.sim_program.specs.declared.kernel.Built.{Built}
@@ -105,10 +102,6 @@ fault-of-end text end at kind is h = subst (IsEndOf text) is h
 -- a syntax end that is a fault
 pub first-of-end : (tokens : List Lexeme) (end : SyntaxEnd) (place : ℕ) → end ≡ S.Fault place → EndsRightly tokens end → IsFirstFault tokens place
 first-of-end tokens end place is h = subst (λ (x : SyntaxEnd). EndsRightly tokens x) is h
-
--- a type end that is a fault
-pub fault-of-type-end : (program : ProgramTree) (end : TypeEnd) (line : ℕ) (kind : TypeKind) → end ≡ T.Fault line kind → TypeAnswers.IsEndOf end (program_verdict program) → program_verdict program ≡ V.fault line kind
-fault-of-type-end program end line kind is h = subst (λ e. TypeAnswers.IsEndOf e (program_verdict program)) is h
 
 -- what was checked of the only program of a text
 kernel-of : (text : Bytes) (program : ProgramTree) (kernel : Kernel) → IsReadAs text program → IsTypedAs program kernel → IsKernelOf text kernel

@@ -14,7 +14,7 @@ use core_code::{CodeEnd, Compiled, compile};
 use kern_lexer::{LexEnd, lex};
 use kern_parser::{SyntaxEnd, parse};
 use kern_syntax::{Program, nodes};
-use kern_types::{Checked, TypeEnd, check};
+use kern_types::{Checked, check};
 use std::alloc::{AllocError, Global};
 
 /// What a text was read as.
@@ -68,10 +68,7 @@ fn check_program(alloc: Global, program: Program) -> Result<Kernel, AllocError>
 {
     match check(alloc, program) {
         Ok(checked) => Ok(Kernel::Typed(checked)),
-        Err(TypeEnd::Memory) => Err(AllocError),
-        Err(TypeEnd::Fault { line, kind }) => {
-            Ok(Kernel::Refused(type_refusal(alloc, line, kind)?))
-        }
+        Err(fault) => Ok(Kernel::Refused(type_refusal(alloc, fault.line, fault.kind)?)),
     }
 }
 

@@ -1,4 +1,4 @@
-use Rattle.std.proofs.Common.{rules, ◌≡◌, ◌+◌, ◌++◌, [], ◌∷◌, true, false, None, drop, refl, ap, sym, ◌∙◌}
+use Rattle.std.proofs.Common.{rules, ◌≡◌, ℕ, List, Bor, map, ◌+◌, ◌++◌, [], ◌∷◌, true, false, None, drop, refl, ap, sym, ◌∙◌}
 use Rattle.kern_syntax.specs.declared.statement.StmtKind.TheFolds.{the_lemmas}
 use Rattle.kern_syntax.specs.Tree.{if_then}
 use Rattle.kern_syntax.specs.TreeOf.{expression_of, block_of, line_of, lines_of, branches_of, elif_of, statement_of}
@@ -12,7 +12,7 @@ use Rattle.kern_plain.proofs.plain.+plain_blocks.Goals.{is_plain_statement-then-
 pub is_plain_block-returns-then-not-is_plain_statement :
     goal.is_plain_block-returns-then-not-is_plain_statement
 is_plain_block-returns-then-not-is_plain_statement t c =
-    let plain = c.args.plain.now ++ c.args.own.now ∷ [] in
+    let plain = map (λ (n : Bor (List ℕ)). n.now) c.args.plain.now ++ c.args.own.now ∷ [] in
     let items = c.deref-statement-items.result.now in
     let i = c.loop-statement.statement-index in
     let item = c.statement-item.result in
@@ -22,7 +22,7 @@ is_plain_block-returns-then-not-is_plain_statement t c =
 
 pub is_plain_block-loop-statement-preserved : goal.is_plain_block-loop-statement-preserved
 is_plain_block-loop-statement-preserved t c =
-    let plain = c.args.plain.now ++ c.args.own.now ∷ [] in
+    let plain = map (λ (n : Bor (List ℕ)). n.now) c.args.plain.now ++ c.args.own.now ∷ [] in
     let items = c.deref-statement-items.result.now in
     let i = c.loop-statement.statement-index in
     let item = c.statement-item.result in
@@ -33,7 +33,7 @@ is_plain_block-loop-statement-preserved t c =
 pub are_plain_branches-returns-then-not-is_plain_elif :
     goal.are_plain_branches-returns-then-not-is_plain_elif
 are_plain_branches-returns-then-not-is_plain_elif t c =
-    let plain = c.args.plain.now ++ c.args.own.now ∷ [] in
+    let plain = map (λ (n : Bor (List ℕ)). n.now) c.args.plain.now ++ c.args.own.now ∷ [] in
     let i = c.loop-branch.branch-index in
     let item = c.branch-item.result in
     let rest = branches_of (drop (i + 1) c.args.branches.now) None in
@@ -42,7 +42,7 @@ are_plain_branches-returns-then-not-is_plain_elif t c =
 
 pub are_plain_branches-loop-branch-preserved : goal.are_plain_branches-loop-branch-preserved
 are_plain_branches-loop-branch-preserved t c =
-    let plain = c.args.plain.now ++ c.args.own.now ∷ [] in
+    let plain = map (λ (n : Bor (List ℕ)). n.now) c.args.plain.now ++ c.args.own.now ∷ [] in
     let i = c.loop-branch.branch-index in
     let item = c.branch-item.result in
     let rest = branches_of (drop (i + 1) c.args.branches.now) None in
@@ -52,7 +52,7 @@ are_plain_branches-loop-branch-preserved t c =
 pub is_plain_statement-returns-then-are_plain_branches :
     goal.is_plain_statement-returns-then-are_plain_branches
 is_plain_statement-returns-then-are_plain_branches t c =
-    let plain = c.args.plain.now ++ c.args.own.now ∷ [] in
+    let plain = map (λ (n : Bor (List ℕ)). n.now) c.args.plain.now ++ c.args.own.now ∷ [] in
     let arm = c.in-If in
     let condition = expression_of arm.condition in
     let body = block_of arm.body in
@@ -75,7 +75,7 @@ is_plain_statement-returns-then-are_plain_branches t c =
 pub is_plain_statement-returns-else-are_plain_branches :
     goal.is_plain_statement-returns-else-are_plain_branches
 is_plain_statement-returns-else-are_plain_branches t c =
-    let plain = c.args.plain.now ++ c.args.own.now ∷ [] in
+    let plain = map (λ (n : Bor (List ℕ)). n.now) c.args.plain.now ++ c.args.own.now ∷ [] in
     let arm = c.in-If in
     let condition = expression_of arm.condition in
     let body = block_of arm.body in

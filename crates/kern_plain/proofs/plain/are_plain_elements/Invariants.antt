@@ -6,4 +6,4 @@ use Rattle.kern_plain.proofs.plain.are_plain_elements.Given as goal
 
 abbrev pub invariant-loop-element : goal.invariant-loop-element
 invariant-loop-element l =
-    list_all (is_plain_expression (l.fn.plain ++ l.fn.own ∷ [])) (map expression_of l.fn.elements) ≡ list_all (is_plain_expression (l.fn.plain ++ l.fn.own ∷ [])) (map expression_of (drop l.element-index l.fn.elements))
+    list_all (is_plain_expression (map (λ n. n.now) l.fn.plain ++ l.fn.own ∷ [])) (map expression_of l.fn.elements) ≡ list_all (is_plain_expression (map (λ n. n.now) l.fn.plain ++ l.fn.own ∷ [])) (map expression_of (drop l.element-index l.fn.elements))

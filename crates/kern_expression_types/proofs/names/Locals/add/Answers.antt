@@ -1,10 +1,9 @@
-use Rattle.std.proofs.Common.{rules, ◌≡◌, ap}
-use Rattle.kern_expression_types.specs.Verdicts.{well}
-use Rattle.kern_expression_types.proofs.Named.{added-named}
+use Rattle.std.proofs.Common.{◌++◌, [], ◌∷◌, ap, ◌∙◌, map}
+use Rattle.std.proofs.lemmas.List.{map-append}
+use Rattle.kern_expression_types.proofs.Pairs.{pair_of}
 use Rattle.kern_expression_types.proofs.names.Locals.add.Goals as goal
 
 pub returns : goal.returns
 returns c =
-    let key = c.in_ok-from_slice.field-0 in
-    let items : key.items ≡ c.args.name.now = search rules in
-    ap well (added-named c.self.inside.types.entries c.insert.new.self.entries key c.args.name.now c.args.kind c.args.self.now c.self.view_is items c.requires c.in_ok-insert.ensures.entries)
+    let before = c.self.inside.names.items in
+    ap (map pair_of) c.push.ensures.items ∙ map-append pair_of before _ ∙ ap (λ pairs. pairs ++ (c.args.name.now, c.args.kind) ∷ []) c.self.view_is
