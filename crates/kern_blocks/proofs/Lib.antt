@@ -1,4 +1,4 @@
 mod BlockExits
 mod BlockTrees
 mod Mapped
-mod Sequenced
+pub mod Sequenced

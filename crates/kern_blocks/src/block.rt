@@ -78,8 +78,8 @@ fn indented_at<'a>(
     Ok((block_of_statements(statements), rest))
 }
 
-// Whether a statement follows in a block, which a Dedent ends.
-fn begins_line(tokens: Tokens) -> bool
+/// Whether a statement follows in a block, which a Dedent ends.
+pub fn begins_line(tokens: Tokens) -> bool
     ensures { result ≡ begins_with is_line (lexemes_left tokens.entry) }
 {
     match tokens.list {

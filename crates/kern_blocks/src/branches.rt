@@ -42,8 +42,8 @@ pub fn if_at<'a>(
     Ok((Stmt { line, kind }, rest))
 }
 
-// Whether an `elif` branch follows.
-fn begins_elif(tokens: Tokens) -> bool
+/// Whether an `elif` branch follows.
+pub fn begins_elif(tokens: Tokens) -> bool
     ensures { result ≡ begins_with is_elif (lexemes_left tokens.entry) }
 {
     match tokens.list {
@@ -177,8 +177,8 @@ pub fn try_at<'a>(
     Ok((Stmt { line, kind }, rest))
 }
 
-// Whether an `except` branch follows.
-fn begins_except(tokens: Tokens) -> bool
+/// Whether an `except` branch follows.
+pub fn begins_except(tokens: Tokens) -> bool
     ensures { result ≡ begins_with is_except (lexemes_left tokens.entry) }
 {
     match tokens.list {

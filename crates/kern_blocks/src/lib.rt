@@ -4,4 +4,5 @@
 mod block;
 mod branches;
 
-pub use block::block_at;
+pub use block::{begins_line, block_at};
+pub use branches::{begins_elif, begins_except};

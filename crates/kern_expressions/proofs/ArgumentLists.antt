@@ -38,7 +38,7 @@ chain-append end [] a = argument_then a end
 chain-append end (first ∷ done) a = ap (argument_of first) (chain-append end done a)
 
 -- what is read by what stands behind an argument
-abbrev then_more : Item → (more : List Symbol → Read Arguments) → Bool → List Symbol → Read Arguments
+abbrev pub then_more : Item → (more : List Symbol → Read Arguments) → Bool → List Symbol → Read Arguments
 then_more first more true rest = more rest >>= λ others. Ok (item_then first others.0, others.1)
 then_more first more false rest = Ok (item_then first no_more, rest)
 
@@ -62,13 +62,13 @@ first_then done a (Ok x) = ap (λ args. Ok (args, x.1)) (sym (chain-append x.0 d
 first_then done a (Err left) = refl
 
 -- the items from an argument that was read on
-items_from : (inside : Inside) (most : ℕ) (a : Item) (rest behind : List Symbol) → item inside rest ≡ Ok (a, behind) → items inside (suc most) rest ≡ (comma_or_close behind >>= λ r. then_more a (items inside most) r.0 r.1)
+pub items_from : (inside : Inside) (most : ℕ) (a : Item) (rest behind : List Symbol) → item inside rest ≡ Ok (a, behind) → items inside (suc most) rest ≡ (comma_or_close behind >>= λ r. then_more a (items inside most) r.0 r.1)
 items_from inside most a rest behind h =
     then_ok (item inside rest) a behind (λ first. items_behind first.0 (items inside most) first.1) h
     ∙ items_behind-by a (items inside most) behind
 
 -- the items from an argument and what stands behind it on
-items_next : (inside : Inside) (most : ℕ) (a : Item) (more : Bool) (rest behind next : List Symbol) → item inside rest ≡ Ok (a, behind) → comma_or_close behind ≡ Ok (more, next) → items inside (suc most) rest ≡ then_more a (items inside most) more next
+pub items_next : (inside : Inside) (most : ℕ) (a : Item) (more : Bool) (rest behind next : List Symbol) → item inside rest ≡ Ok (a, behind) → comma_or_close behind ≡ Ok (more, next) → items inside (suc most) rest ≡ then_more a (items inside most) more next
 items_next inside most a more rest behind next h k =
     items_from inside most a rest behind h ∙ then_ok (comma_or_close behind) more next (λ r. then_more a (items inside most) r.0 r.1) k
 

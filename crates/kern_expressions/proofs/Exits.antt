@@ -44,7 +44,7 @@ readers_of zero level symbols = refl
 readers_of (suc room) level symbols = refl
 
 -- what stands in brackets, where there is room for it
-enclosed_read : (room : ℕ) (is_closing : Symbol → Bool) (build : Expression → Expression) (symbols rest : List Symbol) → room ≢ 0 → rest ≡ drop 1 symbols → enclosed (inside_of room) is_closing build symbols ≡ (level_reader (inside_of (room - 1)) 11 rest >>= λ e. closed is_closing (build e.0) e.1)
+pub enclosed_read : (room : ℕ) (is_closing : Symbol → Bool) (build : Expression → Expression) (symbols rest : List Symbol) → room ≢ 0 → rest ≡ drop 1 symbols → enclosed (inside_of room) is_closing build symbols ≡ (level_reader (inside_of (room - 1)) 11 rest >>= λ e. closed is_closing (build e.0) e.1)
 enclosed_read zero is_closing build symbols rest h d = absurd (h refl)
 enclosed_read (suc room) is_closing build symbols rest h d =
     ap (λ r. r >>= λ e. closed is_closing (build e.0) e.1) (ap (readers room 11) (sym d) ∙ readers_of room 11 rest)
@@ -60,14 +60,14 @@ enclosed_ok room is_closing build symbols rest after e built h d r b =
     ∙ sym (enclosed_read room is_closing build symbols rest h d ∙ then_ok (level_reader (inside_of (room - 1)) 11 rest) e after (λ x. closed is_closing (build x.0) x.1) r)
 
 -- what stands behind a prefix, where there is room for it
-operand_read : (room level : ℕ) (build : Expression → Expression) (symbols rest : List Symbol) → room ≢ 0 → rest ≡ drop 1 symbols → operand (inside_of room) level build symbols ≡ (level_reader (inside_of (room - 1)) level rest >>= λ e. Ok (build e.0, e.1))
+pub operand_read : (room level : ℕ) (build : Expression → Expression) (symbols rest : List Symbol) → room ≢ 0 → rest ≡ drop 1 symbols → operand (inside_of room) level build symbols ≡ (level_reader (inside_of (room - 1)) level rest >>= λ e. Ok (build e.0, e.1))
 operand_read zero level build symbols rest h d = absurd (h refl)
 operand_read (suc room) level build symbols rest h d =
     ap (λ r. r >>= λ e. Ok (build e.0, e.1)) (ap (readers room level) (sym d) ∙ readers_of room level rest)
     ∙ ap (λ n. level_reader (inside_of n) level rest >>= λ e. Ok (build e.0, e.1)) (omega arith)
 
 -- a prefix that is there
-prefix_there : (form_at : Symbol → Option (Expression → Expression)) (inside : Inside) (level : ℕ) (tighter : Reader) (symbols : List Symbol) (build : Expression → Expression) → first_form form_at symbols ≡ Some build → prefixed form_at inside level tighter symbols ≡ operand inside level build symbols
+pub prefix_there : (form_at : Symbol → Option (Expression → Expression)) (inside : Inside) (level : ℕ) (tighter : Reader) (symbols : List Symbol) (build : Expression → Expression) → first_form form_at symbols ≡ Some build → prefixed form_at inside level tighter symbols ≡ operand inside level build symbols
 prefix_there form_at inside level tighter symbols build h = ap (λ o. choose o (tighter symbols) (λ build. operand inside level build symbols)) h
 
 pub prefixed_end : (end : ReadEnd) (form_at : Symbol → Option (Expression → Expression)) (room level : ℕ) (tighter : Reader) (symbols rest : List Symbol) (build : Expression → Expression) → first_form form_at symbols ≡ Some build → room ≢ 0 → rest ≡ drop 1 symbols → IsReadEnd end (level_reader (inside_of (room - 1)) level rest) → IsReadEnd end (prefixed form_at (inside_of room) level tighter symbols)
@@ -83,7 +83,7 @@ prefixed_ok form_at room level tighter symbols rest after e built build f h d r 
     ∙ ap (λ x. Ok (x, after)) (sym b)
 
 -- an expression as an argument, where there is room for it
-value_read : (room : ℕ) (symbols : List Symbol) → room ≢ 0 → value_item (inside_of room) symbols ≡ (level_reader (inside_of (room - 1)) 11 symbols >>= λ e. Ok (value e.0, e.1))
+pub value_read : (room : ℕ) (symbols : List Symbol) → room ≢ 0 → value_item (inside_of room) symbols ≡ (level_reader (inside_of (room - 1)) 11 symbols >>= λ e. Ok (value e.0, e.1))
 value_read zero symbols h = absurd (h refl)
 value_read (suc room) symbols h =
     ap (λ r. r >>= λ e. Ok (value e.0, e.1)) (readers_of room 11 symbols) ∙ ap (λ n. level_reader (inside_of n) 11 symbols >>= λ e. Ok (value e.0, e.1)) (omega arith)
@@ -96,7 +96,7 @@ pub value_found : (room : ℕ) (symbols after : List Symbol) (e : Expression) �
 value_found room symbols after e h r = value_read room symbols h ∙ then_ok (level_reader (inside_of (room - 1)) 11 symbols) e after (λ e. Ok (value e.0, e.1)) r
 
 -- a comparison behind its left operand
-comparison_there : (tighter : Reader) (behind rest : List Symbol) (left : Expression) (op : Comparison) → first_comparison behind ≡ Some op → rest ≡ drop 1 behind → comparison_behind tighter left behind ≡ (tighter rest >>= λ right. end_of_comparison (compare op left right.0) right.1)
+pub comparison_there : (tighter : Reader) (behind rest : List Symbol) (left : Expression) (op : Comparison) → first_comparison behind ≡ Some op → rest ≡ drop 1 behind → comparison_behind tighter left behind ≡ (tighter rest >>= λ right. end_of_comparison (compare op left right.0) right.1)
 comparison_there tighter behind rest left op f d =
     ap (λ o. choose o (Ok (left, behind)) (λ op. tighter (drop 1 behind) >>= λ right. end_of_comparison (compare op left right.0) right.1)) f
     ∙ ap (λ y. tighter y >>= λ right. end_of_comparison (compare op left right.0) right.1) (sym d)

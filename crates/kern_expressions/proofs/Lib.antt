@@ -1,4 +1,4 @@
-mod ArgumentLists
-mod Exits
-mod Lexemes
-mod Passing
+pub mod ArgumentLists
+pub mod Exits
+pub mod Lexemes
+pub mod Passing

@@ -239,8 +239,8 @@ fn called_method_at<'a>(
     }
 }
 
-// What stands behind an argument: a comma, so that another follows, or the closing parenthesis.
-fn comma_or_close<'a>(tokens: Tokens<'a>) -> Result<(bool, Tokens<'a>), WrongToken<'a>>
+/// What stands behind an argument: a comma, so that another follows, or the closing parenthesis.
+pub fn comma_or_close<'a>(tokens: Tokens<'a>) -> Result<(bool, Tokens<'a>), WrongToken<'a>>
     ensures { FindsRead (λ more. more) result (comma_or_close (symbols_left tokens.entry)) }
 {
     match tokens.list {

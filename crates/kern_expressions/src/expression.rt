@@ -59,9 +59,9 @@ fn negated(alloc: Global, operand: Expr) -> Result<Expr, AllocError>
     Ok(Expr::Not(Box::new(alloc, operand)?))
 }
 
-// The level at which what stands first is read: that of `not` where it stands first and may stand
-// there, else that of prefixes, or of atoms where no more is asked for.
-fn front_level(level: u32, tokens: Tokens) -> u32
+/// The level at which what stands first is read: that of `not` where it stands first and may stand
+/// there, else that of prefixes, or of atoms where no more is asked for.
+pub fn front_level(level: u32, tokens: Tokens) -> u32
     ensures { result ≡ front_level level (symbols_left tokens.entry) }
 {
     if level >= 9 && begins_with_not(tokens) {

@@ -1,41 +1,18 @@
--- For the proofs alone: parts of the plan of a function, each to its end, and how it begins.
-use Rattle.std.specs.Prelude.{◌≡◌, ℕ, List, [], ◌∷◌, Bool, true, false, ◌||◌, codes}
+-- For the proofs alone: parts of the plan of a function, each to its end, and where a reader may want memory.
+use Rattle.std.specs.Prelude.{◌≡◌, ℕ, List, ◌∷◌, Ok, codes}
 use Rattle.kern_lexer.specs.Bytes.{Bytes}
-use Rattle.kern_lexer.specs.Symbols.{Lexeme, Symbol}
+use Rattle.kern_lexer.specs.Symbols.{Lexeme}
 use Rattle.kern_expressions.specs.declared.read_end.ReadEnd.{ReadEnd}
 use Rattle.kern_expressions.specs.declared.read_end.ReadEnd.TheVariants as R
 use Rattle.kern_syntax.specs.Tree.{FunctionTree, ParameterTree}
 use Rattle.kern_grammar.specs.BlockPlans.{def_plan, more_parameters, parameters_plan, result_plan}
-use Rattle.kern_grammar.specs.Plans.{Plan, peek, token}
-use Rattle.kern_grammar.specs.Reading.{choose}
-use Rattle.kern_grammar.specs.Views.{Seen, a_name, arrow_or_colon, at_sign, close_parenthesis, def_key, is_seen, line_end, open_parenthesis, the_name}
+use Rattle.kern_grammar.specs.Plans.{Plan, Taken, peek, token}
+use Rattle.kern_grammar.specs.Views.{a_name, arrow_or_colon, close_parenthesis, def_key, is_seen, line_end, open_parenthesis, the_name}
 
--- the first tokens are seen, one by each view
-abbrev pub are_seen : List (Symbol → Seen) → List Lexeme → Bool
-are_seen [] tokens = true
-are_seen (view ∷ views) [] = false
-are_seen (view ∷ views) (t ∷ rest) = choose (view t.symbol) false (λ u. are_seen views rest)
-
--- a `def` comes first
-abbrev pub defines : List Lexeme → Bool
-defines = are_seen (def_key ∷ [])
-
--- what stands behind the sign of a decorator comes first, and a `def`
-abbrev pub names_kernel : List Lexeme → Bool
-names_kernel = are_seen (the_name (codes "kernel") ∷ line_end ∷ def_key ∷ [])
-
--- a decorator and a `def` come first
-abbrev pub decorates : List Lexeme → Bool
-decorates = are_seen (at_sign ∷ the_name (codes "kernel") ∷ line_end ∷ def_key ∷ [])
-
--- a function begins rightly, up to its `def`
-abbrev pub opens_function : List Lexeme → Bool
-opens_function tokens = defines tokens || decorates tokens
-
--- where a reader wants memory, the tokens begin rightly
-abbrev pub NeedsBeginning : (begins : Bool) → ReadEnd → Type 0
-NeedsBeginning begins (R.Fault left) = Unit {0}
-NeedsBeginning begins R.Memory = begins ≡ true
+-- where a reader wants memory, the tokens can be taken
+abbrev pub NeedsTree : {A : Type 0} → Taken A → ReadEnd → Type 0
+NeedsTree taken (R.Fault left) = Unit {0}
+NeedsTree {A} taken R.Memory = (x : A × List Lexeme) × (taken ≡ Ok x)
 
 -- behind the sign of a decorator
 abbrev pub behind_at_plan : Plan FunctionTree

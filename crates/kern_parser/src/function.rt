@@ -1,8 +1,8 @@
 // Reading functions from the front of tokens.
 
-ghost use Rattle.std.specs.Prelude.{◌≡◌, ◌∷◌, false, true, map, IfErr, IfOk};
+ghost use Rattle.std.specs.Prelude.{◌≡◌, ◌∷◌, false, true, map, IfOk};
 ghost use Rattle.kern_grammar.specs.BlockPlans.{a_parameter, comma_parameter, def_plan, function_block, function_plan, is_comma, parameters_plan, result_plan};
-ghost use Rattle.kern_parser.specs.FunctionSteps.{NeedsBeginning, behind_at_plan, defined_plan, defines, further_plan, maybe_parameters_plan, names_kernel, opens_function};
+ghost use Rattle.kern_parser.specs.FunctionSteps.{behind_at_plan, defined_plan, further_plan, maybe_parameters_plan};
 ghost use Rattle.kern_grammar.specs.Plans.{done, many, run, token};
 ghost use Rattle.kern_expressions.specs.TakenBy.{GivesTaken, lexemes_left, perform};
 ghost use Rattle.kern_grammar.specs.Views.{arrow_or_colon};
@@ -26,8 +26,7 @@ pub fn function_at<'a>(
     alloc: Global,
     tokens: Tokens<'a>,
 ) -> Result<(Function, Tokens<'a>), ReadEnd<'a>>
-    ensures taken { GivesTaken function_of result (run function_plan (lexemes_left tokens.entry)) }
-    ensures memory { IfErr result (NeedsBeginning (opens_function (lexemes_left tokens.entry))) }
+    ensures { GivesTaken function_of result (run function_plan (lexemes_left tokens.entry)) }
 {
     decorated_at(alloc, tokens)
 }
@@ -37,8 +36,7 @@ fn decorated_at<'a>(
     alloc: Global,
     tokens: Tokens<'a>,
 ) -> Result<(Function, Tokens<'a>), ReadEnd<'a>>
-    ensures taken { GivesTaken function_of result (perform function_plan (lexemes_left tokens.entry)) }
-    ensures memory { IfErr result (NeedsBeginning (opens_function (lexemes_left tokens.entry))) }
+    ensures { GivesTaken function_of result (perform function_plan (lexemes_left tokens.entry)) }
 {
     match tokens.list {
         [] => Err(ReadEnd::Fault(tokens)),
@@ -57,8 +55,7 @@ fn behind_at_sign<'a>(
     alloc: Global,
     tokens: Tokens<'a>,
 ) -> Result<(Function, Tokens<'a>), ReadEnd<'a>>
-    ensures taken { GivesTaken function_of result (perform behind_at_plan (lexemes_left tokens.entry)) }
-    ensures memory { IfErr result (NeedsBeginning (names_kernel (lexemes_left tokens.entry))) }
+    ensures { GivesTaken function_of result (perform behind_at_plan (lexemes_left tokens.entry)) }
 {
     let rest = word_at(b"kernel", tokens)?;
     let rest = line_end_at(rest)?;
@@ -70,8 +67,7 @@ fn definition_at<'a>(
     alloc: Global,
     tokens: Tokens<'a>,
 ) -> Result<(Function, Tokens<'a>), ReadEnd<'a>>
-    ensures taken { GivesTaken function_of result (perform def_plan (lexemes_left tokens.entry)) }
-    ensures memory { IfErr result (NeedsBeginning (defines (lexemes_left tokens.entry))) }
+    ensures { GivesTaken function_of result (perform def_plan (lexemes_left tokens.entry)) }
 {
     match tokens.list {
         [] => Err(ReadEnd::Fault(tokens)),
@@ -85,8 +81,7 @@ fn defined_at<'a>(
     line: u32,
     tokens: Tokens<'a>,
 ) -> Result<(Function, Tokens<'a>), ReadEnd<'a>>
-    ensures taken { GivesTaken function_of result (perform (defined_plan line) (lexemes_left tokens.entry)) }
-    ensures memory { IfErr result (NeedsBeginning (defines (lexemes_left tokens.entry))) }
+    ensures { GivesTaken function_of result (perform (defined_plan line) (lexemes_left tokens.entry)) }
 {
     let rest = def_at(tokens)?;
     let (name, rest) = name_at(alloc, rest)?;

@@ -1,11 +1,11 @@
 // The tree of a text's tokens.
 
-ghost use Rattle.std.specs.Prelude.{◌≡◌, ◌≤◌, ◌<◌, ◌^◌, ℕ, length, IfOk, IfErr, MatchResult, Ok};
+ghost use Rattle.std.specs.Prelude.{◌≡◌, ◌<◌, ◌^◌, ℕ, length, IfOk, IfErr, MatchResult, Ok};
 ghost use Rattle.kern_canonical.specs.Printing.{PrintsBack};
 ghost use Rattle.kern_lexer.specs.Answers.{HasTokens};
 ghost use Rattle.kern_lexer.specs.Symbols.{lexemes_of};
 ghost use Rattle.kern_grammar.specs.Accepted.{HasTree, IsFirstFault};
-ghost use Rattle.kern_parser.specs.Answers.{EndsRightly, IsMemory, RefusesAt, def_place};
+ghost use Rattle.kern_parser.specs.Answers.{EndsRightly, IsMemory};
 ghost use Rattle.kern_syntax.specs.Spellable.{IsSpellableProgram};
 ghost use Rattle.kern_syntax.specs.Tree.{ProgramTree};
 ghost use Rattle.kern_syntax.specs.TreeOf.{tree_of};
@@ -22,11 +22,12 @@ use std::alloc::{AllocError, Global};
 pub enum SyntaxEnd {
     /// The tokens before this one, counted from 0, begin an accepted list, and those through it don't.
     Fault { token: u32 },
-    /// Memory was refused.
+    /// The tokens have a tree, and memory was refused to building it.
     Memory,
 }
 
-/// The tree of a text's tokens, or the first of them with which no accepted list goes on.
+/// The tree of a text's tokens, or the first of them with which no accepted list goes on, which is
+/// named where memory is refused, too.
 pub fn parse(alloc: Global, tokens: &[Token], bytes: &[u8]) -> Result<Program, SyntaxEnd>
     requires short { length bytes.now < 2 ^ 31 }
     requires lexed { HasTokens bytes.now tokens.now }
@@ -36,10 +37,7 @@ pub fn parse(alloc: Global, tokens: &[Token], bytes: &[u8]) -> Result<Program, S
     ensures only { (tree : ProgramTree) → HasTree (lexemes_of bytes.now tokens.now) tree →
         MatchResult result (λ p. tree_of p ≡ tree) IsMemory }
     ensures fault { IfErr result (EndsRightly (lexemes_of bytes.now tokens.now)) }
-    // A first fault is named, unless memory runs out before it, which it can't up to the `def` of the first function.
-    ensures refused { (place : ℕ) → IsFirstFault (lexemes_of bytes.now tokens.now) place → RefusesAt place result }
-    ensures early { (place : ℕ) → place ≤ def_place (lexemes_of bytes.now tokens.now) →
-        IsFirstFault (lexemes_of bytes.now tokens.now) place → result ≡ Err (SyntaxEnd.Fault place) }
+    ensures refused { (place : ℕ) → IsFirstFault (lexemes_of bytes.now tokens.now) place → result ≡ Err (SyntaxEnd.Fault place) }
 {
     tokens_end_once();
     two_tokens_a_byte();

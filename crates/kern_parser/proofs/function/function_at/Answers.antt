@@ -5,6 +5,6 @@ use Rattle.kern_expressions.specs.TakenBy.{GivesTaken, lexemes_left}
 use Rattle.kern_statements.proofs.Performed.{perform-run}
 use Rattle.kern_parser.proofs.function.function_at.Goals as goal
 
-pub returns-clause-taken : goal.returns-clause-taken
-returns-clause-taken c =
-    subst (GivesTaken function_of c.decorated_at.result) (perform-run function_plan (lexemes_left c.args.tokens)) c.decorated_at.ensures.taken
+pub returns : goal.returns
+returns c =
+    subst (GivesTaken function_of c.decorated_at.result) (perform-run function_plan (lexemes_left c.args.tokens)) c.decorated_at.ensures

@@ -5,19 +5,27 @@ use Rattle.kern_lexer.specs.Bytes.{Bytes}
 use Rattle.kern_lexer.specs.Spelled.{EndsOnce}
 use Rattle.kern_lexer.specs.Symbols.{lexeme_of, lexemes_of}
 use Rattle.kern_lexer.specs.declared.token.Token.{Token}
+use Rattle.kern_syntax.specs.Tree.{ProgramTree}
 use Rattle.kern_syntax.specs.TreeOf.{tree_of}
-use Rattle.kern_grammar.specs.Accepted.{IsFirstFault}
+use Rattle.kern_grammar.specs.Accepted.{HasTree, IsFirstFault}
 use Rattle.kern_grammar.specs.BlockPlans.{program_plan}
 use Rattle.kern_grammar.specs.Plans.{run}
 use Rattle.kern_expressions.specs.TakenBy.{IsTakenEnd, lexemes_left}
+use Rattle.kern_expressions.specs.declared.read_end.ReadEnd.{ReadEnd}
+use Rattle.kern_expressions.specs.declared.read_end.ReadEnd.TheVariants as R
 use Rattle.kern_expressions.specs.declared.tokens.Tokens.{Tokens}
 use Rattle.kern_grammar.proofs.FirstFaults.{no_fault, one_fault}
 use Rattle.kern_grammar.proofs.ParseExits.{lexed-spelled, lexed-spellable, lexed-ended, read-lexed, fault-there, left-within, not-both}
 use Rattle.kern_grammar.proofs.ProgramReads
-use Rattle.kern_parser.specs.FunctionSteps.{NeedsBeginning, opens_function}
+use Rattle.kern_parser.specs.FunctionSteps.{NeedsTree}
 use Rattle.kern_parser.specs.declared.parsing.SyntaxEnd.TheVariants as E
-use Rattle.kern_parser.proofs.Beginnings.{no_fault_up_to_def}
 use Rattle.kern_parser.proofs.parsing.parse.Goals as goal
+
+-- where a tree was read and wants memory, there is a tree
+tree_there : (text : Bytes) (tokens : List Token) (end : ReadEnd) → EndsOnce text tokens → end ≡ R.Memory → NeedsTree (run program_plan (lexemes_of text tokens)) end → (tree : ProgramTree) × HasTree (lexemes_of text tokens) tree
+tree_there text tokens end ends_once is needs =
+    let read = subst (NeedsTree (run program_plan (lexemes_of text tokens))) is needs in
+    (read.0.0, read-lexed text tokens ends_once read.0.0 read.0.1 read.1)
 
 -- where the code stopped is the first fault
 first_there : (text : Bytes) (tokens : List Token) (left : Tokens) → EndsOnce text tokens → run program_plan (lexemes_of text tokens) ≡ Err (lexemes_left left) → IsFirstFault (lexemes_of text tokens) (length tokens - length left.list.now)
@@ -85,23 +93,19 @@ pub returns-in-Ok-clause-refused : goal.returns-in-Ok-clause-refused
 returns-in-Ok-clause-refused c = λ place f.
     let ends_once = c.tokens_end_once.ensures c.args.bytes.now c.args.tokens.now c.requires.lexed in
     let tree = read-lexed c.args.bytes.now c.args.tokens.now ends_once (tree_of c.in-Ok.program) _ (ap (run program_plan) (sym c.of.ensures) ∙ c.in-Ok.ensures.taken) in
-    no_fault (lexemes_of c.args.bytes.now c.args.tokens.now) (tree_of c.in-Ok.program) place tree f
-
-pub returns-in-Ok-clause-early : goal.returns-in-Ok-clause-early
-returns-in-Ok-clause-early c = λ place low f.
-    let ends_once = c.tokens_end_once.ensures c.args.bytes.now c.args.tokens.now c.requires.lexed in
-    let tree = read-lexed c.args.bytes.now c.args.tokens.now ends_once (tree_of c.in-Ok.program) _ (ap (run program_plan) (sym c.of.ensures) ∙ c.in-Ok.ensures.taken) in
     absurd (no_fault (lexemes_of c.args.bytes.now c.args.tokens.now) (tree_of c.in-Ok.program) place tree f)
 
 pub returns-in-Err-Fault-clause-refused : goal.returns-in-Err-Fault-clause-refused
 returns-in-Err-Fault-clause-refused c = λ place f.
-    fault_is_there c.args.bytes.now c.args.tokens.now c.in-Err-Fault.left (c.tokens_end_once.ensures c.args.bytes.now c.args.tokens.now c.requires.lexed) (ap (run program_plan) (sym c.of.ensures) ∙ subst (λ e. IsTakenEnd e (run program_plan (lexemes_left c.of.result))) c.in-Err-Fault.field-0-is c.in-Err-Fault.ensures.taken) place f
-
-pub returns-in-Err-Fault-clause-early : goal.returns-in-Err-Fault-clause-early
-returns-in-Err-Fault-clause-early c = λ place low f.
     ap (λ n. Err (E.Fault n)) (fault_is_there c.args.bytes.now c.args.tokens.now c.in-Err-Fault.left (c.tokens_end_once.ensures c.args.bytes.now c.args.tokens.now c.requires.lexed) (ap (run program_plan) (sym c.of.ensures) ∙ subst (λ e. IsTakenEnd e (run program_plan (lexemes_left c.of.result))) c.in-Err-Fault.field-0-is c.in-Err-Fault.ensures.taken) place f)
 
-pub returns-in-Err-Memory-clause-early : goal.returns-in-Err-Memory-clause-early
-returns-in-Err-Memory-clause-early c = λ place low f.
-    let begins = ap opens_function (sym c.of.ensures) ∙ subst (NeedsBeginning (opens_function (lexemes_left c.of.result))) c.in-Err-Memory.field-0-is c.in-Err-Memory.ensures.memory in
-    absurd (no_fault_up_to_def (lexemes_of c.args.bytes.now c.args.tokens.now) begins place low f)
+pub returns-in-Err-Memory-clause-fault : goal.returns-in-Err-Memory-clause-fault
+returns-in-Err-Memory-clause-fault c =
+    let needs = subst (λ tokens. NeedsTree (run program_plan tokens) c.in-Err-Memory.field-0) c.of.ensures c.in-Err-Memory.ensures.memory in
+    tree_there c.args.bytes.now c.args.tokens.now c.in-Err-Memory.field-0 (c.tokens_end_once.ensures c.args.bytes.now c.args.tokens.now c.requires.lexed) c.in-Err-Memory.field-0-is needs
+
+pub returns-in-Err-Memory-clause-refused : goal.returns-in-Err-Memory-clause-refused
+returns-in-Err-Memory-clause-refused c = λ place f.
+    let needs = subst (λ tokens. NeedsTree (run program_plan tokens) c.in-Err-Memory.field-0) c.of.ensures c.in-Err-Memory.ensures.memory in
+    let there = tree_there c.args.bytes.now c.args.tokens.now c.in-Err-Memory.field-0 (c.tokens_end_once.ensures c.args.bytes.now c.args.tokens.now c.requires.lexed) c.in-Err-Memory.field-0-is needs in
+    absurd (no_fault (lexemes_of c.args.bytes.now c.args.tokens.now) there.0 place there.1 f)

@@ -12,10 +12,10 @@ use Rattle.kern_parser.proofs.program.functions_at.Goals as goal
 
 pub functions-smaller : goal.functions-smaller
 functions-smaller c =
-    item_shorter function_phrase no_stop is_function (run function_plan) takes-function function-begins (lexemes_left c.functions.rest) (lexemes_left c.in_ok-function.behind) (function_of c.in_ok-function.function) c.in_ok-function.ensures.taken
+    item_shorter function_phrase no_stop is_function (run function_plan) takes-function function-begins (lexemes_left c.functions.rest) (lexemes_left c.in_ok-function.behind) (function_of c.in_ok-function.function) c.in_ok-function.ensures
 
 pub functions-preserved : goal.functions-preserved
 functions-preserved c =
     let pushed = ap (map function_of) c.in_ok-push-2.ensures.items ∙ map-append function_of c.functions.functions.items (c.in_ok-function.function ∷ []) in
     let whole = and_more (function_of c.args.first) (many is_function (run function_plan) (lexemes_left c.args.tokens)) in
-    rw pushed (one_more function_phrase no_stop is_function (run function_plan) takes-function function-begins (map function_of c.functions.functions.items) (lexemes_left c.functions.rest) (lexemes_left c.in_ok-function.behind) (function_of c.in_ok-function.function) whole c.functions.invariant c.in_ok-function.ensures.taken)
+    rw pushed (one_more function_phrase no_stop is_function (run function_plan) takes-function function-begins (map function_of c.functions.functions.items) (lexemes_left c.functions.rest) (lexemes_left c.in_ok-function.behind) (function_of c.in_ok-function.function) whole c.functions.invariant c.in_ok-function.ensures)

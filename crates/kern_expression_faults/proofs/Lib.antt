@@ -1,0 +1,4 @@
+mod Arguments
+mod Formed
+mod Levels
+mod Nested

@@ -1,0 +1,6 @@
+mod BlockSkips
+mod FirstLooks
+mod FunctionSkips
+mod ManySkips
+mod SimpleSkips
+mod Skipping
