@@ -26,7 +26,9 @@ fn main(rt: HostRuntime) -> io::Result<()> {
             let (dump, waveform) = (sizes.dump, sizes.waveform);
             println!(rt; "{dump} bytes of a dump, {waveform} of its waveform")
         }
-        None => println!(rt; "an output is lost, or there is no memory"),
+        None => println!(rt;
+            "an output is lost or beyond the horizon, the dump has no bytes or no waveform, or there is no memory"
+        ),
     }
 }
 

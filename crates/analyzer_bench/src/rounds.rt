@@ -1,13 +1,11 @@
 // What is timed.
 
-ghost use Rattle.std.specs.Prelude.{◌≡◌, ℕ, List, length, IfSome};
+ghost use Rattle.std.specs.Prelude.{◌≡◌, length, IfSome};
 ghost use Rattle.core_analyzer.specs.CoreDumps.{dump_of};
-ghost use Rattle.core_analyzer.specs.Dumps.{IsSpelling};
+ghost use Rattle.core_analyzer.specs.Dumps.{IsSpelling, dump_bytes};
 ghost use Rattle.core_analyzer.specs.Waveform.{waveform_text};
 
-use core_analyzer::{
-    Dump, a_dump_has_one_spelling, has_few_entries, read_dump, rising, vcd, write_dump,
-};
+use core_analyzer::{Dump, has_few_entries, read_dump, rising, vcd, write_dump};
 use rtio_core::Core;
 use std::alloc::Global;
 
@@ -34,10 +32,9 @@ pub struct Sizes {
 /// Writes the dump of a core, reads it and writes its waveform, and then does one of these so many times more. None where the
 /// core's dump has no bytes or no waveform, or there is no memory.
 pub fn worked(alloc: Global, core: &Core, work: Work, rounds: u64) -> Option<Sizes>
-    ensures dump { IfSome result (λ sizes. (bytes : List ℕ) → IsSpelling bytes (dump_of core.now) → sizes.dump ≡ length bytes) }
+    ensures dump { IfSome result (λ sizes. sizes.dump ≡ length (dump_bytes (dump_of core.now))) }
     ensures waveform { IfSome result (λ sizes. sizes.waveform ≡ length (waveform_text (dump_of core.now).events)) }
 {
-    a_dump_has_one_spelling();
     let bytes = written(alloc, core)?;
     let dump = read_dump(alloc, &bytes).ok()?;
     let waveform = drawn(alloc, &dump)?;

@@ -1,4 +1,4 @@
-//! Outputs that are sent through a new core one after another, for what times cores and what becomes of their events.
+//! Outputs that go through a new core one after another, for the programs that time cores and their dumps.
 #![tactic(auto)]
 
 mod outputs;

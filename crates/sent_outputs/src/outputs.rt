@@ -1,6 +1,6 @@
 // Outputs that go through a core one after another.
 
-ghost use Rattle.std.specs.Prelude.{◌≡◌, ◌≤◌, length, IfOk, IfSome, OnSome, None, Some};
+ghost use Rattle.std.specs.Prelude.{◌≡◌, length, IfSome, OnSome, None, Some};
 ghost use Rattle.rtio_core.specs.Entries.{open_session};
 ghost use Rattle.rtio_core.specs.Reply.{outputs_at};
 
