@@ -5,7 +5,9 @@ ghost use Rattle.core_analyzer.specs.CoreDumps.{dump_of};
 ghost use Rattle.core_analyzer.specs.Dumps.{IsSpelling, dump_bytes};
 ghost use Rattle.core_analyzer.specs.Waveform.{waveform_text};
 
-use core_analyzer::{Dump, has_few_entries, read_dump, rising, vcd, write_dump};
+use core_analyzer::{
+    Dump, a_dump_has_one_spelling, has_few_entries, read_dump, rising, vcd, write_dump,
+};
 use rtio_core::Core;
 use std::alloc::Global;
 
@@ -35,6 +37,7 @@ pub fn worked(alloc: Global, core: &Core, work: Work, rounds: u64) -> Option<Siz
     ensures dump { IfSome result (λ sizes. sizes.dump ≡ length (dump_bytes (dump_of core.now))) }
     ensures waveform { IfSome result (λ sizes. sizes.waveform ≡ length (waveform_text (dump_of core.now).events)) }
 {
+    a_dump_has_one_spelling();
     let bytes = written(alloc, core)?;
     let dump = read_dump(alloc, &bytes).ok()?;
     let waveform = drawn(alloc, &dump)?;

@@ -11,6 +11,7 @@ ghost use Rattle.core_code.specs.Ready.{AreReadyFrom};
 
 use core_code_statements::{Setting, SlottedNames, Texts, block_slots, put_body};
 use core_isa::{CodeFunction, CodeLine};
+use kern_expression_types::is_among;
 use kern_names::{Functions, names_of};
 use kern_syntax::Function;
 use std::alloc::{AllocError, Global};
@@ -20,6 +21,13 @@ use std::alloc::{AllocError, Global};
 pub struct Parts {
     pub entries: Vec<CodeFunction>,
     pub lines: Vec<CodeLine>,
+}
+
+// Whether a function is one of those that are plain.
+fn is_plain(plain: &[&[u8]], function: &Function) -> bool
+    ensures { result ≡ is_in (map (λ n. n.now) plain.now) function.now.name }
+{
+    is_among(plain, function.name.bytes())
 }
 
 // The entry of a function that has these names and whose code begins at a place.
@@ -45,7 +53,7 @@ fn entry_of(
         params: function.parameters.items().len() as u8,
         slots: names.slots().saturating_add(block_slots(&function.body)),
         value: function.result.is_some(),
-        plain: plain.iter().any(|name| function.name.bytes() == *name),
+        plain: is_plain(plain, function),
     }
 }
 
