@@ -37,9 +37,8 @@ pub fn worked(alloc: Global, core: &Core, work: Work, rounds: u64) -> Option<Siz
     ensures dump { IfSome result (λ sizes. sizes.dump ≡ length (dump_bytes (dump_of core.now))) }
     ensures waveform { IfSome result (λ sizes. sizes.waveform ≡ length (waveform_text (dump_of core.now).events)) }
 {
-    a_dump_has_one_spelling();
     let bytes = written(alloc, core)?;
-    let dump = read_dump(alloc, &bytes).ok()?;
+    let dump = read_back(alloc, core, &bytes)?;
     let waveform = drawn(alloc, &dump)?;
     for _round in 0..rounds {
         repeat(alloc, core, &bytes, &dump, work)?;
@@ -74,6 +73,18 @@ fn written(alloc: Global, core: &Core) -> Option<Vec<u8>>
         return None;
     }
     write_dump(alloc, core).ok()
+}
+
+// The dump that the core's bytes spell.
+fn read_back(alloc: Global, core: &Core, bytes: &[u8]) -> Option<Dump>
+    requires { IsSpelling bytes.now (dump_of core.now) }
+    ensures { IfSome result (λ dump. dump ≡ dump_of core.now) }
+{
+    a_dump_has_one_spelling();
+    match read_dump(alloc, bytes) {
+        Ok(dump) => Some(dump),
+        Err(_) => None,
+    }
 }
 
 // The dump's waveform.
