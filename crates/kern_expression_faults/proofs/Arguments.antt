@@ -22,10 +22,6 @@ pub record ArgumentsPassed (inside : Inside) (rest : List Symbol) (whole : Read 
   pub enough : length rest < most
   pub same : passed (items inside most rest) ≡ passed whole
 
--- at the start all of them are there
-pub all_there : (inside : Inside) (symbols : List Symbol) → ArgumentsPassed inside symbols (items inside (suc (length symbols)) symbols)
-all_there inside symbols = record { most = suc (length symbols); enough = omega arith; same = refl }
-
 -- an argument is passed as those behind it are
 one_passed : (first : Item) (read : Read Arguments) → passed (read >>= λ others. Ok (item_then first others.0, others.1)) ≡ passed read
 one_passed first (Ok x) = refl

@@ -1,15 +1,14 @@
 -- Expressions one nesting deeper, and atoms, of which the form or the end alone is kept.
 use Rattle.std.proofs.Common.{◌≡◌, ◌≢◌, ℕ, ◌-◌, Bool, true, false, cond, List, refl, ◌∙◌, ap, drop}
-use Rattle.std.specs.Prelude.{Option, Some, None, Ok, Err}
+use Rattle.std.specs.Prelude.{Some, None, Ok, Err}
 use Rattle.kern_lexer.specs.Symbols.{Symbol}
 use Rattle.kern_syntax.specs.Tree.{Expression}
 use Rattle.kern_grammar.specs.Operators.{stops}
-use Rattle.kern_grammar.specs.Reading.{Read, Reader, Inside, ◌>>=◌, atom, bare_atom, closed, enclosed, ended, first_form, inside_of, level_reader, operand, prefixed, value, value_item}
+use Rattle.kern_grammar.specs.Reading.{Read, Inside, ◌>>=◌, atom, bare_atom, closed, enclosed, ended, inside_of, level_reader, operand, value, value_item}
 use Rattle.kern_grammar.proofs.RowFaults.{ok_pair, ok_err}
 use Rattle.kern_grammar.proofs.RowReads.{then_ok}
-use Rattle.kern_expressions.proofs.Exits.{operand_read, prefix_there, value_read}
+use Rattle.kern_expressions.proofs.Exits.{operand_read, value_read}
 use Rattle.kern_expression_faults.specs.declared.form.Form.{Form}
-use Rattle.kern_expression_faults.specs.declared.form.Form.TheVariants.{Other}
 use Rattle.kern_expression_faults.specs.Forms.{form_of, formed, passed}
 use Rattle.kern_expression_faults.proofs.Formed.{formed-ok, passed-ok}
 
@@ -22,21 +21,6 @@ deeper_passed room level build symbols rest after form h d r =
 pub deeper_ended : (room level : ℕ) (build : Expression → Expression) (symbols rest left : List Symbol) → room ≢ 0 → rest ≡ drop 1 symbols → level_reader (inside_of (room - 1)) level rest ≡ Err left → operand (inside_of room) level build symbols ≡ Err left
 deeper_ended room level build symbols rest left h d r =
     operand_read room level build symbols rest h d ∙ ap (λ q. q >>= λ e. Ok (build e.0, e.1)) r
-
--- what a prefix makes has no form of its own
-built_other : (first : Read Expression) (build : Expression → Expression) (after : List Symbol) → ((e : Expression) → form_of (build e) ≡ Other) → passed (first >>= λ e. Ok (build e.0, e.1)) ≡ Ok (tt, after) → formed (first >>= λ e. Ok (build e.0, e.1)) ≡ Ok (Other, after)
-built_other (Ok x) build after f h =
-    let r : Read (Unit {0}) = Ok (tt, x.1) in
-    ap (λ form. Ok (form, x.1)) (f x.0) ∙ ap (λ p. Ok (Other, p.1)) (ok_pair r (tt, x.1) (tt, after) refl h)
-built_other (Err left) build after f h = let r : Read (Unit {0}) = Err left in ok_err r (tt, after) left h refl
-
-operand_other : (inside : Inside) (level : ℕ) (build : Expression → Expression) (symbols after : List Symbol) → ((e : Expression) → form_of (build e) ≡ Other) → passed (operand inside level build symbols) ≡ Ok (tt, after) → formed (operand inside level build symbols) ≡ Ok (Other, after)
-operand_other None level build symbols after f h = let r : Read (Unit {0}) = Err symbols in ok_err r (tt, after) symbols h refl
-operand_other (Some inside) level build symbols after f h = built_other (inside level (drop 1 symbols)) build after f h
-
-pub prefix_passed : (form_at : Symbol → Option (Expression → Expression)) (inside : Inside) (level : ℕ) (tighter : Reader) (symbols after : List Symbol) (build : Expression → Expression) → first_form form_at symbols ≡ Some build → ((e : Expression) → form_of (build e) ≡ Other) → passed (operand inside level build symbols) ≡ Ok (tt, after) → formed (prefixed form_at inside level tighter symbols) ≡ Ok (Other, after)
-prefix_passed form_at inside level tighter symbols after build is f h =
-    ap formed (prefix_there form_at inside level tighter symbols build is) ∙ operand_other inside level build symbols after f h
 
 -- what stands in brackets is an expression one nesting deeper, and the closing one
 closed_behind : (first : Read Expression) (is_closing : Symbol → Bool) (build : Expression → Expression) → (first >>= λ e. closed is_closing (build e.0) e.1) ≡ ((first >>= λ e. Ok (build e.0, e.1)) >>= λ e. closed is_closing e.0 e.1)

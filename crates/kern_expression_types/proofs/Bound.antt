@@ -28,12 +28,6 @@ module _ (functions : Functions) (place : Place) (names : Names) where
       let first : arguments_verdict functions place names (argument_of argument rest) ≡ (arguments_verdict functions place names rest >>= (λ others. well (a ∷ others))) = rw (arguments_verdict-first argument rest) (rw given refl) in
       is ∙ ap (mapped (misfit_after found wanted i)) first ∙ misfit_after-more (arguments_verdict functions place names rest) found wanted i a
 
-  -- an argument has a fault
-  pub argument-fault : {B : Type 0} (argument : Argument) (rest : Arguments) (whole : Verdict B) (f : List Given → B) (line : ℕ) (kind : TypeKind) → whole ≡ mapped f (arguments_verdict functions place names (argument_of argument rest)) → argument_verdict functions place names (argument_of argument no_more) ≡ fault line kind → whole ≡ fault line kind
-  argument-fault argument rest whole f line kind is given =
-      let first : arguments_verdict functions place names (argument_of argument rest) ≡ fault line kind = rw (arguments_verdict-first argument rest) (rw given refl) in
-      is ∙ ap (mapped f) first
-
   -- one element more is read
   pub element-read : (e : Expression) (rest : List Expression) (whole : Verdict (Option TypeKind)) (found : Option TypeKind) (wanted : Wanted) (a : Given) → whole ≡ mapped (each_after found wanted) (elements_verdict functions place names (e ∷ rest)) → expression_verdict functions place names e ≡ well a → whole ≡ mapped (each_after (option_or found (misfit wanted a)) wanted) (elements_verdict functions place names rest)
   element-read e rest whole found wanted a is given =

@@ -48,11 +48,6 @@ pub bind-same : {A B : Type 0} (v : Verdict A) (first second : A → Verdict B) 
 bind-same (well a) first second same = same a
 bind-same (fault line kind) first second same = refl
 
--- what is made of a verdict has its fault
-pub mapped-fault : {A B C : Type 0} (v : Verdict A) (f : A → B) (next : A → Verdict C) (line : ℕ) (kind : TypeKind) → mapped f v ≡ fault line kind → (v >>= next) ≡ fault line kind
-mapped-fault (well a) f next line kind is = cc
-mapped-fault (fault other k) f next line kind is = cc
-
 -- a call whose arguments have been looked at
 pub call-read : (place : Place) (callee : Result Callee TypeKind) (v : Verdict (List Given)) (count : ℕ) (found : Option TypeKind) → ((given : List Given) → v ≡ well given → length given ≡ count) → mapped (first_misfit (taken_by callee)) v ≡ well found → (v >>= callee_verdict place callee) ≡ counted_verdict place callee count found
 call-read place callee (well given) count found counted is =

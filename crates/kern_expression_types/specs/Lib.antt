@@ -5,5 +5,4 @@ pub mod Fits
 pub mod FunctionNames
 pub mod KnownOf
 pub mod Misfits
-pub mod Numbered
 pub mod Verdicts

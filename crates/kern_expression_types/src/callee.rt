@@ -56,7 +56,8 @@ pub struct Callee<'a> {
     pub takes: Takes<'a>,
     /// The type of its value, if it has one.
     pub result: Option<DeclaredType>,
-    /// Whether it asks the core for more than outputs or opens an input's gate.
+    /// Whether no record block may have the call: it asks the core for more than outputs, opens an input's gate, or is of a
+    /// function that isn't plain.
     pub is_live: bool,
 }
 

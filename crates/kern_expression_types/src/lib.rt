@@ -17,6 +17,6 @@ pub use fits::{
     refuse_some, scalar_of,
 };
 pub use known::Known;
-pub use names::{FunctionNames, FunctionNumbers, Locals, is_among};
+pub use names::{FunctionNames, Locals, is_among};
 pub use place::{Given, Place};
 pub use reserved::{is_exception, is_reserved};

@@ -1,12 +1,12 @@
 // The names of a function with their types, and the names of all functions with fast look-up.
 
-ghost use Rattle.std.specs.Prelude.{◌≡◌, ◌++◌, [], ◌∷◌, ◌<◌, List, ℕ, None, length, IfOk, OnOk};
+ghost use Rattle.std.specs.Prelude.{◌≡◌, ◌++◌, [], ◌∷◌, ◌<◌, List, ℕ, length, IfOk, OnOk};
 ghost use Rattle.kern_expression_types.specs.Before.{is_in, with_member};
 ghost use Rattle.kern_expression_types.specs.FunctionNames.{function_names};
 ghost use Rattle.kern_calls.specs.Calls.{look_up};
 
 use arrayvec::ArrayVec;
-use indexmap::{IndexMap, IndexSet};
+use indexmap::IndexSet;
 use kern_calls::ValueType;
 use kern_syntax::Function;
 use std::alloc::{AllocError, Global};
@@ -192,55 +192,6 @@ impl NameList {
         ensures { OnOk result (self.new ≡ with_member self.old name.now) }
     {
         self.names.insert(Vec::from_slice(alloc, name)?)?;
-        Ok(())
-    }
-}
-
-/// The functions of a program by their names, each with its place in the text, from 0; contracts see them as a list of
-/// pairs.
-#[derive(Drop)]
-pub struct FunctionNumbers {
-    numbers: IndexMap<Vec<u8>, usize>,
-}
-
-impl Model for FunctionNumbers {
-    ghost use Rattle.std.specs.Prelude.{List, ℕ, map};
-
-    ghost Value = { List (List ℕ × ℕ) };
-
-    ghost view = { λ l. map (λ entry. (entry.0.items, entry.1)) l.numbers.entries };
-}
-
-impl FunctionNumbers {
-    /// No functions.
-    pub fn new(alloc: Global) -> FunctionNumbers
-        ensures { result ≡ [] }
-    {
-        FunctionNumbers {
-            numbers: IndexMap::new(alloc),
-        }
-    }
-
-    /// How many functions there are.
-    pub fn len(&self) -> usize
-        ensures { result ≡ length self.now }
-    {
-        self.numbers.len()
-    }
-
-    /// The place of the function of a name.
-    pub fn get(&self, name: &[u8]) -> Option<usize>
-        ensures { result ≡ look_up self.now name.now }
-    {
-        self.numbers.get(name).copied()
-    }
-
-    /// Adds a function whose name isn't there.
-    pub fn add(&mut self, alloc: Global, name: &[u8], number: usize) -> Result<(), AllocError>
-        requires { look_up self.old name.now ≡ None }
-        ensures { OnOk result (self.new ≡ self.old ++ (name.now, number) ∷ []) }
-    {
-        self.numbers.insert(Vec::from_slice(alloc, name)?, number)?;
         Ok(())
     }
 }

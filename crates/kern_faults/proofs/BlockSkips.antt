@@ -2,7 +2,7 @@
 use Rattle.std.proofs.Common.{◌≡◌, ℕ, suc, Bool, true, false, List, [], ◌∷◌, refl, sym, ◌∙◌, ap, drop}
 use Rattle.std.specs.Prelude.{Option, Some, None, codes}
 use Rattle.kern_lexer.specs.Symbols.{Lexeme}
-use Rattle.kern_syntax.specs.Tree.{Expression, if_then, while_do, for_range, parallel, sequential, record_as, try_do, line_then}
+use Rattle.kern_syntax.specs.Tree.{Expression, if_then, while_do, for_range, try_do, line_then}
 use Rattle.kern_syntax.specs.Tree as Tree
 use Rattle.kern_grammar.specs.BlockPlans as P
 use Rattle.kern_grammar.specs.BlockPlans.{a_block, block_of_lines, block_plan, branches_plan, elif_plan, except_plan, handlers_of_lines, handlers_plan, is_elif, is_else, is_except, is_line, line_plan, otherwise_of, range_plan, statement_plan}

@@ -16,7 +16,7 @@ use Rattle.kern_statements.proofs.Performed.{perform-run}
 use Rattle.kern_grammar.proofs.Many.{many-some, many-none}
 use Rattle.kern_expression_faults.specs.Forms.{form_of, formed_taken}
 use Rattle.kern_expression_faults.specs.declared.form.Form.{Form}
-use Rattle.kern_faults.specs.Skips.{Skip, ◌▸◌, nothing}
+use Rattle.kern_faults.specs.Skips.{Skip, ◌▸◌}
 use Rattle.kern_faults.specs.Skips as N
 use Rattle.kern_faults.specs.Without.{without}
 use Rattle.kern_faults.proofs.Skipping as K

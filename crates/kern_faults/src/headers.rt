@@ -1,4 +1,4 @@
-// Going over names, and over the bounds of a `for`.
+// Going over names, over the bounds of a `for`, and over the item of a `with`.
 
 ghost use Rattle.std.specs.Prelude.{true};
 ghost use Rattle.kern_expressions.specs.TakenBy.{FindsRest, lexemes_left};

@@ -23,7 +23,8 @@ pub fn program_end_at<'a>(tokens: Tokens<'a>) -> Result<Tokens<'a>, WrongToken<'
     text_end_at(rest)
 }
 
-/// Whether a function follows, which the End doesn't. Both readings of a program ask it.
+/// Whether a further function has to follow: anything but the End stands here. Both readings of a
+/// program ask it.
 pub fn begins_function(tokens: Tokens) -> bool
     ensures { result ≡ begins_with is_function (lexemes_left tokens.entry) }
 {

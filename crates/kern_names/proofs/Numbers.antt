@@ -8,9 +8,8 @@ use Rattle.kern_syntax.specs.Tree.{Bytes, FunctionTree}
 use Rattle.kern_syntax.specs.TreeOf.{function_of, tree_of}
 use Rattle.kern_calls.specs.Calls.{look_up}
 use Rattle.kern_types.specs.Programs.{place_of_function}
-use Rattle.kern_expression_types.specs.Numbered.{numbered}
 use Rattle.kern_expression_types.proofs.Lists.{drop-item}
-use Rattle.kern_names.specs.Numbers.{with_number}
+use Rattle.kern_names.specs.Numbers.{numbered, with_number}
 use Rattle.kern_names.proofs.Positions.{position_first, position_behind}
 
 -- the first of two answers that there is

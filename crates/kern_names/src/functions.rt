@@ -5,7 +5,7 @@ ghost use Rattle.kern_syntax.specs.TreeOf.{tree_of};
 ghost use Rattle.kern_calls.specs.Calls.{look_up};
 ghost use Rattle.kern_types.specs.Programs.{place_of_function};
 
-use kern_expression_types::FunctionNumbers;
+use crate::function_numbers::FunctionNumbers;
 use kern_syntax::{DeclaredType, Function};
 use std::alloc::{AllocError, Global};
 

@@ -2,12 +2,14 @@
 //! ask for them. The programs are typed: what is wrong with another one is said by the checker.
 #![tactic(auto)]
 
+mod function_numbers;
 mod functions;
 mod local_names;
 mod names;
 mod scope;
 mod types;
 
+pub use function_numbers::FunctionNumbers;
 pub use functions::{Functions, number_functions};
 pub use local_names::names_of;
 pub use names::{KnownName, Names};

@@ -15,7 +15,7 @@ use kern_canonical::canonical_text_reads_back;
 use kern_expressions::{ReadEnd, Tokens};
 use kern_lexer::{Token, tokens_end_once, two_tokens_a_byte};
 use kern_syntax::Program;
-use std::alloc::{AllocError, Global};
+use std::alloc::Global;
 
 /// Why tokens have no tree.
 #[derive(Clone, Copy, PartialEq, Eq, Debug, Drop)]

@@ -1,5 +1,5 @@
 use Rattle.std.proofs.Common.{rules, ◌≡◌, sym}
-use Rattle.kern_expression_types.proofs.Named.{added-named}
+use Rattle.kern_names.proofs.Entries.{added-named}
 use Rattle.kern_names.proofs.names.Names.add.Goals as goal
 
 pub returns : goal.returns

@@ -1,6 +1,6 @@
 use Rattle.std.proofs.Common.{ap, ◌∙◌}
 use Rattle.kern_calls.specs.Calls.{look_up}
-use Rattle.kern_expression_types.proofs.Named.{lookup-named}
+use Rattle.kern_names.proofs.Entries.{lookup-named}
 use Rattle.kern_names.proofs.names.Names.kind.Goals as goal
 
 pub returns : goal.returns
