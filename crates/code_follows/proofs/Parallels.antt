@@ -30,22 +30,31 @@ module _ (given : List Reply) (code : Code) where
       follows_two given code below own I.Max a b _ (λ p. let f = fits p in max_fits a b f.0 f.1) (λ around s free count. refl) stands
 
   module _ {premise : Type 0} {most : ℕ} (setting : Setting) where
-    -- one statement of the block, and the others
-    pub follows_parallel_line : (place mid past : ℕ) (start greatest : ℤ) (first : Action ⊤) (rest : ℤ → Action ⊤) → ((t : ℤ) (s : State) → Moved s (final (rest t s))) → Fits64 start → Fits64 greatest → Stand code.lines place (I.Load (own_slot given code setting 0) ∷ I.At ∷ []) → Follows given code premise most (deeper (start ∷ greatest ∷ []) setting) (place + 1 + 1) mid (holding []) (λ v. ⊤) (λ v. holding []) first → Stand code.lines mid (I.Load (own_slot given code setting 1) ∷ I.Now ∷ I.Max ∷ I.Store (own_slot given code setting 1) ∷ []) → ((t : ℤ) → Fits64 t → Follows given code premise most setting (mid + 1 + 1 + 1 + 1) past (keeping (start ∷ t ∷ [])) (λ v. ⊤) (λ v. holding []) (rest t)) → Follows given code premise most setting place past (keeping (start ∷ greatest ∷ [])) (λ v. ⊤) (λ v. holding []) (set_cursor start >> (first >> (cursor_now >>= λ t. rest (int_max greatest t))))
-    follows_parallel_line place mid past start greatest first rest moves fs fg at_place ff at_mid fr =
+    -- a statement of the block has ended: the next one begins at the start
+    pub follows_parallel_next : (place past : ℕ) (start greatest : ℤ) (rest : ℤ → Action ⊤) → ((t : ℤ) (s : State) → Moved s (final ((set_cursor start >> rest t) s))) → Fits64 start → Fits64 greatest → Stand code.lines place (I.Load (own_slot given code setting 1) ∷ I.Now ∷ I.Max ∷ I.Store (own_slot given code setting 1) ∷ I.Load (own_slot given code setting 0) ∷ I.At ∷ []) → ((t : ℤ) → Fits64 t → Follows given code premise most setting (place + 1 + 1 + 1 + 1 + 1 + 1) past (keeping (start ∷ t ∷ [])) (λ v. ⊤) (λ v. holding []) (rest t)) → Follows given code premise most setting place past (keeping (start ∷ greatest ∷ [])) (λ v. ⊤) (λ v. holding []) (cursor_now >>= λ t. set_cursor start >> rest (int_max greatest t))
+    follows_parallel_next place past start greatest rest moves fs fg at_place fr =
         let own = start ∷ greatest ∷ [] in
-        let st1 = at_mid.3 in
+        let st1 = at_place.3 in
         let st2 = st1.3 in
         let st3 = st2.3 in
-        let last : (t : ℤ) → Follows given code ((premise × Fits64 greatest) × Fits64 t) most setting (mid + 1 + 1) past (record { operands = t ∷ greatest ∷ []; temporaries = own }) (λ v. ⊤) (λ v. holding []) (rest (int_max greatest t)) =
-        λ t. follows_before given code (int_max greatest t) (follows_max [] own greatest t (λ p. (p.0.1, p.1)) (st2.0, st2.1, st2.2, tt)) (follows_before given code tt (follows_put given code [] own 1 greatest (int_max greatest t) refl (st3.0, st3.1, st3.2, tt)) (by_fits given code (moves (int_max greatest t)) (λ p. p.0.1) (λ f. follows_if given code (λ p. p.0.0.0.0) (fr (int_max greatest t) f)))) in
-        follows_before given code start (follows_own given code [] own 0 start refl (λ p. fs) (at_place.0, at_place.1, at_place.2, tt)) (follows_if given code (λ p. p.0) (follows_then given code (follows_at given code [] own start (λ p. fs) (at_place.3.0, at_place.3.1, at_place.3.2, tt)) (follows_then given code (follows_beneath given code (keeping own) (bare setting) ff) (follows_before given code greatest (follows_own given code [] own 1 greatest refl (λ p. fg) (at_mid.0, at_mid.1, at_mid.2, tt)) (follows_bind given code (follows_now given code (greatest ∷ []) own (st1.0, st1.1, st1.2, tt)) last)))))
+        let st4 = st3.3 in
+        let st5 = st4.3 in
+        let again : (m : ℤ) → Fits64 m → Follows given code premise most setting (place + 1 + 1 + 1 + 1) past (keeping (start ∷ m ∷ [])) (λ v. ⊤) (λ v. holding []) (set_cursor start >> rest m) =
+        λ m fm. let next = start ∷ m ∷ [] in follows_before given code start (follows_own given code [] next 0 start refl (λ p. fs) (st4.0, st4.1, st4.2, tt)) (follows_if given code (λ p. p.0) (follows_then given code (follows_at given code [] next start (λ p. fs) (st5.0, st5.1, st5.2, tt)) (fr m fm))) in
+        let last : (t : ℤ) → Follows given code ((premise × Fits64 greatest) × Fits64 t) most setting (place + 1 + 1) past (record { operands = t ∷ greatest ∷ []; temporaries = own }) (λ v. ⊤) (λ v. holding []) (set_cursor start >> rest (int_max greatest t)) =
+        λ t. follows_before given code (int_max greatest t) (follows_max [] own greatest t (λ p. (p.0.1, p.1)) (st2.0, st2.1, st2.2, tt)) (follows_before given code tt (follows_put given code [] own 1 greatest (int_max greatest t) refl (st3.0, st3.1, st3.2, tt)) (by_fits given code (moves (int_max greatest t)) (λ p. p.0.1) (λ f. follows_if given code (λ p. p.0.0.0.0) (again (int_max greatest t) f)))) in
+        follows_before given code greatest (follows_own given code [] own 1 greatest refl (λ p. fg) (at_place.0, at_place.1, at_place.2, tt)) (follows_bind given code (follows_now given code (greatest ∷ []) own (st1.0, st1.1, st1.2, tt)) last)
 
-    -- the end of the block
-    pub follows_parallel_end : (place : ℕ) (start greatest : ℤ) → Fits64 greatest → Stand code.lines place (I.Load (own_slot given code setting 1) ∷ I.At ∷ []) → Follows given code premise most setting place (place + 1 + 1) (keeping (start ∷ greatest ∷ [])) (λ v. ⊤) (λ v. holding []) (set_cursor greatest)
+    -- the last statement has ended: the block ends at the greatest end
+    pub follows_parallel_end : (place : ℕ) (start greatest : ℤ) → Fits64 greatest → Stand code.lines place (I.Load (own_slot given code setting 1) ∷ I.Now ∷ I.Max ∷ I.At ∷ []) → Follows given code premise most setting place (place + 1 + 1 + 1 + 1) (keeping (start ∷ greatest ∷ [])) (λ v. ⊤) (λ v. holding []) (cursor_now >>= λ t. set_cursor (int_max greatest t))
     follows_parallel_end place start greatest fg at_place =
         let own = start ∷ greatest ∷ [] in
-        follows_before given code greatest (follows_own given code [] own 1 greatest refl (λ p. fg) (at_place.0, at_place.1, at_place.2, tt)) (follows_forget given code (follows_at given code [] own greatest (λ p. fg) (at_place.3.0, at_place.3.1, at_place.3.2, tt)))
+        let st1 = at_place.3 in
+        let st2 = st1.3 in
+        let st3 = st2.3 in
+        let last : (t : ℤ) → Follows given code ((premise × Fits64 greatest) × Fits64 t) most setting (place + 1 + 1) (place + 1 + 1 + 1 + 1) (record { operands = t ∷ greatest ∷ []; temporaries = own }) (λ v. ⊤) (λ v. holding []) (set_cursor (int_max greatest t)) =
+        λ t. follows_before given code (int_max greatest t) (follows_max [] own greatest t (λ p. (p.0.1, p.1)) (st2.0, st2.1, st2.2, tt)) (follows_forget given code (follows_at given code [] own (int_max greatest t) (λ p. p.1) (st3.0, st3.1, st3.2, tt))) in
+        follows_before given code greatest (follows_own given code [] own 1 greatest refl (λ p. fg) (at_place.0, at_place.1, at_place.2, tt)) (follows_bind given code (follows_now given code (greatest ∷ []) own (st1.0, st1.1, st1.2, tt)) last)
 
     -- the beginning of the block
     pub follows_parallel_begin : (place past : ℕ) (body : ℤ → Action ⊤) → ((t : ℤ) (s : State) → Moved s (final (body t s))) → length setting.temporaries + 2 ≤ setting.limit → Stand code.lines place (I.Now ∷ I.Dup ∷ I.Store (own_slot given code setting 0) ∷ I.Store (own_slot given code setting 1) ∷ []) → ((t : ℤ) → Fits64 t → Follows given code premise most setting (place + 1 + 1 + 1 + 1) past (keeping (t ∷ t ∷ [])) (λ v. ⊤) (λ v. holding []) (body t)) → Follows given code premise most setting place past (holding []) (λ v. ⊤) (λ v. holding []) (cursor_now >>= λ t. body t)

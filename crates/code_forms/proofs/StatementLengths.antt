@@ -21,8 +21,8 @@ use Rattle.code_forms.specs.Lines.{line, raised, with_handler, with_recording, s
 use Rattle.code_forms.specs.Operations.{operator_instrs, call_instrs, call_has_value, takes_numbers, array_argument, method_instrs, method_has_value}
 use Rattle.code_forms.specs.Programs.{body_inside, setting_of}
 use Rattle.code_forms.specs.Setting.{Setting, slot_of, length_of, index_of_text}
-use Rattle.code_forms.specs.Sizes.{when, unless, expression_size, arguments_size, call_size, method_size, effect_size, stored_size, return_size, from_size, exit_size, statement_size, block_size, parallel_size, otherwise_size, handlers_size}
-use Rattle.code_forms.specs.StatementCode.{Inside, keeping, in_loop, under, code_of_name, leaving, returning, no_result, no_value, result_mark, moved, exit, branch_lines, then_place, else_place, end_place, turns_place, for_begins, for_goes_on, value_code, second_code, return_code, from_code, stored_code, statement_code, block_code, parallel_code, otherwise_code, handlers_code}
+use Rattle.code_forms.specs.Sizes.{when, unless, expression_size, arguments_size, call_size, method_size, effect_size, stored_size, return_size, from_size, exit_size, statement_size, block_size, parallel_size, others_size, otherwise_size, handlers_size}
+use Rattle.code_forms.specs.StatementCode.{Inside, keeping, in_loop, under, code_of_name, leaving, returning, no_result, no_value, result_mark, moved, exit, branch_lines, then_place, else_place, end_place, turns_place, for_begins, for_goes_on, next_begins, value_code, second_code, return_code, from_code, stored_code, statement_code, block_code, parallel_code, others_code, otherwise_code, handlers_code}
 use Rattle.code_forms.proofs.Lengths.{length-straight, length-method, length-expression, length-arguments, call_length}
 
 -- parts one after another
@@ -182,9 +182,7 @@ module _ (setting : Setting) where
         let again = first + 10 + block_size setting inside.mark.tries inside.mark.tries b in
         five _ _ _ _ _ (length-from inside place from) (length-second inside (place + from_size setting from) to) (length-straight (raised 2 inside.mark) (for_begins setting inside x again)) (length-block (in_loop again (again + 4) (keeping 2 inside)) (first + 10) b) (length-straight inside.mark (for_goes_on inside (first + 3)))
     length-statement inside place (parallel b) =
-        let begins = straight inside.mark (I.Now ∷ I.Dup ∷ I.Store inside.free ∷ I.Store (inside.free + 1) ∷ []) in
-        let ends = straight inside.mark (I.Load (inside.free + 1) ∷ I.At ∷ []) in
-        three begins (parallel_code setting (keeping 2 inside) (place + 4) b) ends refl (length-parallel (keeping 2 inside) (place + 4) b) refl
+        two (straight inside.mark (I.Now ∷ I.Dup ∷ I.Store inside.free ∷ I.Store (inside.free + 1) ∷ [])) (parallel_code setting (keeping 2 inside) (place + 4) b) refl (length-parallel (keeping 2 inside) (place + 4) b)
     length-statement inside place (sequential b) = length-block inside place b
     length-statement inside place (record_as name b) =
         let within = under (with_recording inside.mark) inside in
@@ -203,10 +201,13 @@ module _ (setting : Setting) where
     pub length-parallel : (inside : Inside) (place : ℕ) (b : Block) → length (parallel_code setting inside place b) ≡ parallel_size setting inside.mark.tries inside.loop.tries b
     length-parallel inside place done = refl
     length-parallel inside place (line_then l s rest) =
-        let begins = straight inside.mark (I.Load (inside.free - 2) ∷ I.At ∷ []) in
-        let ends = straight inside.mark (I.Load (inside.free - 1) ∷ I.Now ∷ I.Max ∷ I.Store (inside.free - 1) ∷ []) in
-        let next = place + 2 + statement_size setting inside.mark.tries inside.loop.tries s + 4 in
-        four begins (statement_code setting inside (place + 2) s) ends (parallel_code setting inside next rest) refl (length-statement inside (place + 2) s) refl (length-parallel inside next rest)
+        two _ _ (length-statement inside place s) (length-others inside (place + statement_size setting inside.mark.tries inside.loop.tries s) rest)
+
+    pub length-others : (inside : Inside) (place : ℕ) (b : Block) → length (others_code setting inside place b) ≡ others_size setting inside.mark.tries inside.loop.tries b
+    length-others inside place done = refl
+    length-others inside place (line_then l s rest) =
+        let next = place + 6 + statement_size setting inside.mark.tries inside.loop.tries s in
+        three (straight inside.mark (next_begins inside)) (statement_code setting inside (place + 6) s) (others_code setting inside next rest) refl (length-statement inside (place + 6) s) (length-others inside next rest)
 
     pub length-otherwise : (inside : Inside) (place : ℕ) (rest : Otherwise) → length (otherwise_code setting inside place rest) ≡ otherwise_size setting inside.mark.tries inside.loop.tries rest
     length-otherwise inside place no_else = refl
@@ -230,6 +231,7 @@ module _ (setting : Setting) where
         statements = length-statement;
         blocks = length-block;
         parallel_blocks = length-parallel;
+        others = length-others;
         branches = length-otherwise;
         handlers = length-handlers;
       }

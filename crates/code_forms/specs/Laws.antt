@@ -5,8 +5,8 @@ use Rattle.core_isa.specs.declared.code.Mark.{Mark}
 use Rattle.code_forms.specs.ExpressionCode.{expression_code, effect_code}
 use Rattle.code_forms.specs.Programs.{function_code, function_size}
 use Rattle.code_forms.specs.Setting.{Setting}
-use Rattle.code_forms.specs.Sizes.{expression_size, effect_size, statement_size, block_size, parallel_size, otherwise_size, handlers_size}
-use Rattle.code_forms.specs.StatementCode.{Inside, statement_code, block_code, parallel_code, otherwise_code, handlers_code}
+use Rattle.code_forms.specs.Sizes.{expression_size, effect_size, statement_size, block_size, parallel_size, others_size, otherwise_size, handlers_size}
+use Rattle.code_forms.specs.StatementCode.{Inside, statement_code, block_code, parallel_code, others_code, otherwise_code, handlers_code}
 
 -- the code of each part has as many lines as its size says, at any place, under any mark and whatever slots are free
 pub record HasItsSize (setting : Setting) : Type 0 where
@@ -20,6 +20,8 @@ pub record HasItsSize (setting : Setting) : Type 0 where
       → length (block_code setting inside place b) ≡ block_size setting inside.mark.tries inside.loop.tries b
   pub parallel_blocks : (inside : Inside) (place : ℕ) (b : Block)
       → length (parallel_code setting inside place b) ≡ parallel_size setting inside.mark.tries inside.loop.tries b
+  pub others : (inside : Inside) (place : ℕ) (b : Block)
+      → length (others_code setting inside place b) ≡ others_size setting inside.mark.tries inside.loop.tries b
   pub branches : (inside : Inside) (place : ℕ) (rest : Otherwise)
       → length (otherwise_code setting inside place rest) ≡ otherwise_size setting inside.mark.tries inside.loop.tries rest
   pub handlers : (inside : Inside) (place end : ℕ) (handlers : Handlers)

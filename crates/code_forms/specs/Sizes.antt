@@ -121,7 +121,7 @@ module _ (setting : Setting) where
         2 + (block_size tries tries b + (expression_size (asked LoopEnd c) + loop_size (is_turned LoopEnd c)))
     statement_size tries kept (for_range x from to b) =
         from_size from + (expression_size to + (10 + (block_size tries tries b + 4)))
-    statement_size tries kept (parallel b) = 4 + (parallel_size tries kept b + 2)
+    statement_size tries kept (parallel b) = 4 + parallel_size tries kept b
     statement_size tries kept (sequential b) = block_size tries kept b
     statement_size tries kept (record_as name b) = 1 + (block_size tries kept b + 1)
     statement_size tries kept (try_do b handlers) =
@@ -135,8 +135,12 @@ module _ (setting : Setting) where
     -- of the statements of a parallel block
     pub parallel_size : (tries kept : ℕ) → Block → ℕ
     parallel_size tries kept done = 0
-    parallel_size tries kept (line_then line s rest) =
-        2 + (statement_size tries kept s + (4 + parallel_size tries kept rest))
+    parallel_size tries kept (line_then line s rest) = statement_size tries kept s + others_size tries kept rest
+
+    -- of those behind one of them
+    pub others_size : (tries kept : ℕ) → Block → ℕ
+    others_size tries kept done = 4
+    others_size tries kept (line_then line s rest) = 6 + (statement_size tries kept s + others_size tries kept rest)
 
     -- of the further branches of an `if`
     pub otherwise_size : (tries kept : ℕ) → Otherwise → ℕ

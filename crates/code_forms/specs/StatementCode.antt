@@ -132,6 +132,21 @@ for_begins setting inside x again =
 abbrev pub for_goes_on : Inside → (turn : ℕ) → List Instr
 for_goes_on inside turn = I.Load (inside.free + 1) ∷ I.Load inside.free ∷ I.Le ∷ I.JumpZero turn ∷ []
 
+-- a statement of a parallel block has ended, whose end counts where it is the greatest: the next one begins at the start, or the
+-- block ends at the greatest end
+abbrev pub next_begins : Inside → List Instr
+next_begins inside =
+    I.Load (inside.free - 1)
+    ∷ I.Now
+    ∷ I.Max
+    ∷ I.Store (inside.free - 1)
+    ∷ I.Load (inside.free - 2)
+    ∷ I.At
+    ∷ []
+
+abbrev pub block_ends : Inside → List Instr
+block_ends inside = I.Load (inside.free - 1) ∷ I.Now ∷ I.Max ∷ I.At ∷ []
+
 module _ (setting : Setting) where
   -- an expression in a statement
   abbrev pub value_code : Inside → (place : ℕ) → Expression → List CodeLine
@@ -248,7 +263,6 @@ module _ (setting : Setting) where
     statement_code inside place (parallel b) =
         straight inside.mark (I.Now ∷ I.Dup ∷ I.Store inside.free ∷ I.Store (inside.free + 1) ∷ [])
         ++ parallel_code (keeping 2 inside) (place + 4) b
-        ++ straight inside.mark (I.Load (inside.free + 1) ∷ I.At ∷ [])
     statement_code inside place (sequential b) = block_code inside place b
     statement_code inside place (record_as name b) =
         line inside.mark (I.Record (index_of_text setting name))
@@ -291,12 +305,16 @@ module _ (setting : Setting) where
     pub parallel_code : Inside → (place : ℕ) → Block → List CodeLine
     parallel_code inside place done = []
     parallel_code inside place (line_then line s rest) =
-        straight inside.mark (I.Load (inside.free - 2) ∷ I.At ∷ [])
-        ++ statement_code inside (place + 2) s
-        ++ straight
-        inside.mark
-        (I.Load (inside.free - 1) ∷ I.Now ∷ I.Max ∷ I.Store (inside.free - 1) ∷ [])
-        ++ parallel_code inside (place + 2 + statement_size setting inside.mark.tries inside.loop.tries s + 4) rest
+        statement_code inside place s
+        ++ others_code inside (place + statement_size setting inside.mark.tries inside.loop.tries s) rest
+
+    -- those behind one of them: its end counts where it is the greatest, and the next one begins at the start
+    pub others_code : Inside → (place : ℕ) → Block → List CodeLine
+    others_code inside place done = straight inside.mark (block_ends inside)
+    others_code inside place (line_then line s rest) =
+        straight inside.mark (next_begins inside)
+        ++ statement_code inside (place + 6) s
+        ++ others_code inside (place + 6 + statement_size setting inside.mark.tries inside.loop.tries s) rest
 
     -- the further branches of an `if`
     pub otherwise_code : Inside → (place : ℕ) → Otherwise → List CodeLine

@@ -13,8 +13,8 @@ use Rattle.code_forms.specs.Conditions.{asked}
 use Rattle.code_forms.specs.Lines.{raised, with_handler, with_recording}
 use Rattle.code_forms.specs.Programs.{statement_slots, block_slots, otherwise_slots, handlers_slots}
 use Rattle.code_forms.specs.Setting as C
-use Rattle.code_forms.specs.Sizes.{expression_size, from_size, statement_size, block_size, parallel_size, otherwise_size, handlers_size}
-use Rattle.code_forms.specs.StatementCode.{Inside, keeping, in_loop, under, then_place, else_place, value_code, second_code, from_code, statement_code, block_code, parallel_code, otherwise_code, handlers_code}
+use Rattle.code_forms.specs.Sizes.{expression_size, from_size, statement_size, block_size, parallel_size, others_size, otherwise_size, handlers_size}
+use Rattle.code_forms.specs.StatementCode.{Inside, keeping, in_loop, under, then_place, else_place, value_code, second_code, from_code, statement_code, block_code, parallel_code, others_code, otherwise_code, handlers_code}
 use Rattle.code_forms.specs.Suited.{IsSuited, IfThereSuited, IsSuitedStatement, IsSuitedBlock, IsSuitedOtherwise, AreSuitedHandlers}
 use Rattle.code_forms.specs.Texts.{expression_texts, option_texts, statement_texts, block_texts, otherwise_texts, handler_texts}
 use Rattle.code_forms.proofs.StatementLengths.{length-statement}
@@ -27,7 +27,7 @@ use Rattle.code_marks.proofs.Held.{Held, IsOutside, HasTexts, in_front as texts_
 use Rattle.code_marks.proofs.Instructions.{simple}
 use Rattle.code_marks.proofs.Leaving.{leaving_part, return_part}
 use Rattle.code_marks.proofs.Loops.{again, past, while_part, turns, goes_on, for_part}
-use Rattle.code_marks.proofs.Parallels.{parallel_part, one_of_parallel}
+use Rattle.code_marks.proofs.Parallels.{parallel_part, end_of_parallel, one_of_parallel}
 use Rattle.code_marks.proofs.Parts.{HasMark, StandIn, Part, same_mark, nothing, part_to, one_part, in_turn}
 use Rattle.code_marks.proofs.Placed.{Placed, earlier, with_slots, in_a_loop, in_a_record, in_a_try, in_parallel}
 use Rattle.code_marks.proofs.Tries.{handler_at, try_end, try_part, no_handler_part, next_handler, handler_part, record_part}
@@ -127,9 +127,18 @@ module _ (code : Code) (k : ℕ) (f : CodeFunction) (cs : C.Setting) (plain : Li
     parallel_lines done d u t inside place two room g s = part_to code k f (omega arith) refl (nothing code k f place inside.mark)
     parallel_lines (line_then ln st rest) d u t inside place two room g s =
         let n = statement_size cs inside.mark.tries inside.loop.tries st in
+        part_to code k f (omega arith) refl (in_turn code k f (statement_code cs inside place st) (others_code cs inside (place + n) rest) (length-statement cs inside place st) refl
+        (statement_part st false false d u.0 (texts_front cs (statement_texts st) (block_texts rest) t) inside place (left_room inside.free (statement_slots st) (block_slots rest) f.slots room) (earlier code k f false false d inside _ _ (omega arith) g))
+        (other_lines rest d u.1 (texts_back cs (statement_texts st) (block_texts rest) t) inside (place + n) two (right_room inside.free (statement_slots st) (block_slots rest) f.slots room) (earlier code k f false false d inside _ _ (omega arith) g))
+        s)
+
+    other_lines : (b : Block) (d : Bool) → IsSuitedBlock cs plain false false d b → HasTexts cs (block_texts b) → (inside : Inside) (place : ℕ) → 2 ≤ inside.free → inside.free + block_slots b ≤ f.slots → Placed code k f false false d inside (place + others_size cs inside.mark.tries inside.loop.tries b) → StandIn code k place (others_code cs inside place b) → Part code k f place (place + others_size cs inside.mark.tries inside.loop.tries b) inside.mark inside.mark
+    other_lines done d u t inside place two room g s = end_of_parallel code k f cs inside place two (omega (arith, room)) s
+    other_lines (line_then ln st rest) d u t inside place two room g s =
+        let n = statement_size cs inside.mark.tries inside.loop.tries st in
         one_of_parallel code k f cs inside ln st rest place two (omega (arith, room))
-        (statement_part st false false d u.0 (texts_front cs (statement_texts st) (block_texts rest) t) inside (place + 2) (left_room inside.free (statement_slots st) (block_slots rest) f.slots room) (earlier code k f false false d inside _ _ (omega arith) g))
-        (parallel_lines rest d u.1 (texts_back cs (statement_texts st) (block_texts rest) t) inside (place + 2 + n + 4) two (right_room inside.free (statement_slots st) (block_slots rest) f.slots room) (earlier code k f false false d inside _ _ (omega arith) g))
+        (statement_part st false false d u.0 (texts_front cs (statement_texts st) (block_texts rest) t) inside (place + 6) (left_room inside.free (statement_slots st) (block_slots rest) f.slots room) (earlier code k f false false d inside _ _ (omega arith) g))
+        (other_lines rest d u.1 (texts_back cs (statement_texts st) (block_texts rest) t) inside (place + 6 + n) two (right_room inside.free (statement_slots st) (block_slots rest) f.slots room) (earlier code k f false false d inside _ _ (omega arith) g))
         s
 
     otherwise_part : (rest : Otherwise) (l r d : Bool) → IsSuitedOtherwise cs plain l r d rest → HasTexts cs (otherwise_texts rest) → (inside : Inside) (place : ℕ) → inside.free + otherwise_slots rest ≤ f.slots → Placed code k f l r d inside (place + otherwise_size cs inside.mark.tries inside.loop.tries rest) → StandIn code k place (otherwise_code cs inside place rest) → Part code k f place (place + otherwise_size cs inside.mark.tries inside.loop.tries rest) inside.mark inside.mark

@@ -1,101 +1,128 @@
 -- A parallel block.
 use Rattle.std.proofs.Common.{◌≡◌, ℕ, ◌+◌, ◌-◌, ◌≤◌, List, [], ◌∷◌, ◌++◌, length, refl, sym, ◌∙◌, subst, arith, length-append}
 use Rattle.std.specs.Prelude.{Bool, ℤ, ⊤}
+use Rattle.std.specs.Int.{int_max}
 use Rattle.rtio_types.specs.declared.request.Reply.{Reply}
 use Rattle.kern_syntax.specs.Tree.{Bytes, Statement, parallel, Block, done, line_then}
-use Rattle.timeline_sem.specs.Actions.{set_cursor}
+use Rattle.timeline_sem.specs.Actions.{State, Action, skip, cursor_now, ◌>>=◌, ◌>>◌}
 use Rattle.timeline_sem.specs.Expressions.{Callee}
+use Rattle.timeline_sem.specs.Laws.{final}
 use Rattle.timeline_sem.specs.Statements.{statement, parallel_block}
+use Rattle.timeline_sem.proofs.Keeps.{keeps_bind, keeps_then, keeps_cursor_now}
+use Rattle.timeline_sem.proofs.KeepsWhole.{keeps_statement, keeps_parallel}
 use Rattle.core_isa.specs.declared.code.Code.{Code}
 use Rattle.core_isa.specs.declared.instr.Instr.TheVariants as I
 use Rattle.code_forms.specs.Setting as C
 use Rattle.code_forms.specs.Lines.{straight}
-use Rattle.code_forms.specs.Sizes.{statement_size, parallel_size}
-use Rattle.code_forms.specs.StatementCode.{Inside, keeping, statement_code, parallel_code}
-use Rattle.code_forms.proofs.StatementLengths.{length-statement, length-parallel}
+use Rattle.code_forms.specs.Sizes.{statement_size, parallel_size, others_size}
+use Rattle.code_forms.specs.StatementCode.{Inside, keeping, next_begins, block_ends, statement_code, parallel_code, others_code}
+use Rattle.code_forms.proofs.StatementLengths.{length-statement}
 use Rattle.code_follows.specs.Stands.{holding, Setting, Fits64}
 use Rattle.code_follows.specs.Parts.{Moved, Follows, Stand, deeper}
-use Rattle.code_follows.proofs.Compose.{moved, moves_of}
+use Rattle.code_follows.proofs.Beneath.{follows_beneath}
+use Rattle.code_follows.proofs.Compose.{moved, moved_same, moves_of, follows_same, follows_then}
+use Rattle.code_follows.proofs.Flow.{follows_forget, follows_skip}
+use Rattle.code_follows.proofs.ForLoops.{bare}
 use Rattle.code_follows.proofs.Lines.{LinesStand, first_part, second_part, straight_stands}
-use Rattle.timeline_sem.proofs.KeepsWhole.{keeps_parallel}
 use Rattle.code_follows.proofs.Loops as L
-use Rattle.code_follows.proofs.Parallels.{follows_parallel_begin, follows_parallel_line, follows_parallel_end}
+use Rattle.code_follows.proofs.Parallels.{follows_parallel_begin, follows_parallel_next, follows_parallel_end}
 use Rattle.code_follows.proofs.Variables.{own_slot}
-use Rattle.code_meaning.proofs.Known.{Known}
+use Rattle.code_meaning.proofs.Known.{Known, follows_to}
 use Rattle.code_meaning.proofs.Places.{Placed}
 
+module _ (cs : C.Setting) (callee : Callee) where
+  -- what the statements of a parallel block do where the cursor is at the start already
+  abbrev pub from_start : Block → (start : ℤ) → Action ⊤
+  from_start done start = skip
+  from_start (line_then ln first rest) start =
+      statement cs.scope callee first >> (cursor_now >>= λ t. parallel_block cs.scope callee rest start (int_max start t))
+
+  -- that is the block, from each state
+  from_start_same : (b : Block) (s : State) → (cursor_now >>= λ t. from_start b t) s ≡ statement cs.scope callee (parallel b) s
+  from_start_same done s = refl
+  from_start_same (line_then ln first rest) s = refl
+
 module _ (given : List Reply) (code : Code) (cs : C.Setting) (plain : List Bytes) (callee : Callee) (room : ℕ) (known : Known given code cs plain callee room) (most : ℕ) (l may d : Bool) (inside : Inside) (place : ℕ) (setting : Setting) (g : Placed cs room l may d inside setting) where
-  -- what the statements of a parallel block do, from their start and their greatest end so far
+  -- what the statements behind one of a parallel block do, from their start and the greatest end before it
+  abbrev pub InOthers : ℕ → Block → Type 0
+  InOthers p b =
+      (start greatest : ℤ) → Fits64 start → Fits64 greatest → Follows given code ⊤ most setting p (p + others_size cs inside.mark.tries inside.loop.tries b) (L.keeping (start ∷ greatest ∷ [])) (λ v. ⊤) (λ v. holding []) (cursor_now >>= λ t. parallel_block cs.scope callee b start (int_max greatest t))
+
+  -- what all of them do
   abbrev pub InParallel : ℕ → Block → Type 0
   InParallel p b =
-      Stand code.lines (p + parallel_size cs inside.mark.tries inside.loop.tries b) (I.Load (own_slot given code setting 1) ∷ I.At ∷ [])
-      → (start greatest : ℤ) → Fits64 start → Fits64 greatest → Follows given code ⊤ most setting p (p + parallel_size cs inside.mark.tries inside.loop.tries b + 1 + 1) (L.keeping (start ∷ greatest ∷ [])) (λ v. ⊤) (λ v. holding []) (parallel_block cs.scope callee b start greatest)
+      (start : ℤ) → Fits64 start → Follows given code ⊤ most setting p (p + parallel_size cs inside.mark.tries inside.loop.tries b) (L.keeping (start ∷ start ∷ [])) (λ v. ⊤) (λ v. holding []) (from_start cs callee b start)
+
+  -- a statement of the block, whose start and greatest end lie beneath
+  abbrev pub IsDone : Statement → Type 0
+  IsDone st =
+      (a b : ℤ) (p : ℕ) → LinesStand code.lines p (statement_code cs (keeping 2 inside) p st) → Follows given code ⊤ most (deeper (a ∷ b ∷ []) setting) p (p + statement_size cs inside.mark.tries inside.loop.tries st) (holding []) (λ v. ⊤) (λ v. holding []) (statement cs.scope callee st)
+
+  moves_from_start : (b : Block) (start : ℤ) (s : State) → Moved s (final (from_start cs callee b start s))
+  moves_from_start done start s = moved_same s
+  moves_from_start (line_then ln st rest) start s =
+      moves_of (keeps_then Moved Moved moved (keeps_statement Moved Moved moved cs.scope callee known.moves st) (keeps_bind Moved Moved moved (keeps_cursor_now Moved Moved moved) (λ t. keeps_parallel Moved Moved moved cs.scope callee known.moves rest start (int_max start t)))) s
 
   pub follows_parallel_do : (b : Block) → length setting.temporaries + 2 ≤ setting.limit → ((p : ℕ) → LinesStand code.lines p (parallel_code cs (keeping 2 inside) p b) → InParallel p b) → LinesStand code.lines place (statement_code cs inside place (parallel b)) → Follows given code ⊤ most setting place (place + statement_size cs inside.mark.tries inside.loop.tries (parallel b)) (holding []) (λ v. ⊤) (λ v. holding []) (statement cs.scope callee (parallel b))
   follows_parallel_do b limit body s =
       let n = parallel_size cs inside.mark.tries inside.loop.tries b in
       let free = inside.free in
-      let within = keeping 2 inside in
       let zero_slot : free ≡ own_slot given code setting 0 = omega (arith, g.free) in
       let one_slot : free + 1 ≡ own_slot given code setting 1 = omega (arith, g.free) in
       let cb = straight inside.mark (I.Now ∷ I.Dup ∷ I.Store free ∷ I.Store (free + 1) ∷ []) in
-      let cp = parallel_code cs within (place + 4) b in
-      let ce = straight inside.mark (I.Load (free + 1) ∷ I.At ∷ []) in
-      let front = first_part code.lines place (cb ++ cp) ce s in
-      let sb = straight_stands code.lines place inside.mark (I.Now ∷ I.Dup ∷ I.Store free ∷ I.Store (free + 1) ∷ []) (first_part code.lines place cb cp front) in
-      let sp = second_part code.lines place 4 cb cp refl front in
-      let long : length (cb ++ cp) ≡ 4 + n = length-append cb cp ∙ omega (arith, length-parallel cs within (place + 4) b) in
-      let se = straight_stands code.lines (place + (4 + n)) inside.mark (I.Load (free + 1) ∷ I.At ∷ []) (second_part code.lines place (4 + n) (cb ++ cp) ce long s) in
+      let cp = parallel_code cs (keeping 2 inside) (place + 4) b in
+      let sb = straight_stands code.lines place inside.mark (I.Now ∷ I.Dup ∷ I.Store free ∷ I.Store (free + 1) ∷ []) (first_part code.lines place cb cp s) in
+      let sp = second_part code.lines place 4 cb cp refl s in
       let begins = subst (λ k. Stand code.lines place (I.Now ∷ I.Dup ∷ I.Store (own_slot given code setting 0) ∷ I.Store k ∷ [])) one_slot (subst (λ k. Stand code.lines place (I.Now ∷ I.Dup ∷ I.Store k ∷ I.Store (free + 1) ∷ [])) zero_slot sb) in
-      let at_end : place + (4 + n) ≡ place + 4 + n = omega arith in
-      let ends = subst (λ k. Stand code.lines (place + 4 + n) (I.Load k ∷ I.At ∷ [])) one_slot (subst (λ p. Stand code.lines p (I.Load (free + 1) ∷ I.At ∷ [])) at_end se) in
       let at_body : place + 4 ≡ place + 1 + 1 + 1 + 1 = omega arith in
-      let past : place + 4 + n + 1 + 1 ≡ place + (4 + (n + 2)) = omega arith in
-      let turns : (t : ℤ) → Fits64 t → Follows given code ⊤ most setting (place + 1 + 1 + 1 + 1) (place + 4 + n + 1 + 1) (L.keeping (t ∷ t ∷ [])) (λ v. ⊤) (λ v. holding []) (parallel_block cs.scope callee b t t) = λ t f. subst (λ p. Follows given code ⊤ most setting p (place + 4 + n + 1 + 1) (L.keeping (t ∷ t ∷ [])) (λ v. ⊤) (λ v. holding []) (parallel_block cs.scope callee b t t)) at_body (body (place + 4) sp ends t t f f) in
-      let whole = follows_parallel_begin given code setting place (place + 4 + n + 1 + 1) (λ t. parallel_block cs.scope callee b t t) (λ t. moves_of (keeps_parallel Moved Moved moved cs.scope callee known.moves b t t)) limit begins turns in
-      subst (λ p. Follows given code ⊤ most setting place p (holding []) (λ v. ⊤) (λ v. holding []) (statement cs.scope callee (parallel b))) past whole
+      let past : place + 4 + n ≡ place + (4 + n) = omega arith in
+      let turns : (t : ℤ) → Fits64 t → Follows given code ⊤ most setting (place + 1 + 1 + 1 + 1) (place + 4 + n) (L.keeping (t ∷ t ∷ [])) (λ v. ⊤) (λ v. holding []) (from_start cs callee b t) = λ t f. subst (λ p. Follows given code ⊤ most setting p (place + 4 + n) (L.keeping (t ∷ t ∷ [])) (λ v. ⊤) (λ v. holding []) (from_start cs callee b t)) at_body (body (place + 4) sp t f) in
+      let whole = follows_parallel_begin given code setting place (place + 4 + n) (λ t. from_start cs callee b t) (moves_from_start b) limit begins turns in
+      follows_to given code past (follows_same given code (from_start_same cs callee b) whole)
 
-  pub follows_no_more : InParallel place done
-  follows_no_more stands start greatest f h =
-      let here : place + 0 ≡ place = omega arith in
-      let at_place = subst (λ p. Stand code.lines p (I.Load (own_slot given code setting 1) ∷ I.At ∷ [])) here stands in
-      subst (λ p. Follows given code ⊤ most setting place (p + 1 + 1) (L.keeping (start ∷ greatest ∷ [])) (λ v. ⊤) (λ v. holding []) (set_cursor greatest)) (sym here) (follows_parallel_end given code setting place start greatest h at_place)
+  pub follows_none : (p : ℕ) → InParallel p done
+  follows_none p start f = follows_to given code (omega arith) (follows_forget given code (follows_skip given code))
 
-  pub follows_line : (ln : ℕ) (st : Statement) (rest : Block) → ((a b : ℤ) (p : ℕ) → LinesStand code.lines p (statement_code cs (keeping 2 inside) p st) → Follows given code ⊤ most (deeper (a ∷ b ∷ []) setting) p (p + statement_size cs inside.mark.tries inside.loop.tries st) (holding []) (λ v. ⊤) (λ v. holding []) (statement cs.scope callee st)) → ((p : ℕ) → LinesStand code.lines p (parallel_code cs (keeping 2 inside) p rest) → InParallel p rest) → LinesStand code.lines place (parallel_code cs (keeping 2 inside) place (line_then ln st rest)) → InParallel place (line_then ln st rest)
-  follows_line ln st rest body others s stands start greatest f h =
-      let ns = statement_size cs inside.mark.tries inside.loop.tries st in
-      let nr = parallel_size cs inside.mark.tries inside.loop.tries rest in
-      let own = start ∷ greatest ∷ [] in
+  pub follows_first : (ln : ℕ) (st : Statement) (rest : Block) → IsDone st → ((p : ℕ) → LinesStand code.lines p (others_code cs (keeping 2 inside) p rest) → InOthers p rest) → (p : ℕ) → LinesStand code.lines p (parallel_code cs (keeping 2 inside) p (line_then ln st rest)) → InParallel p (line_then ln st rest)
+  follows_first ln st rest body others p s start f =
+      let n = statement_size cs inside.mark.tries inside.loop.tries st in
+      let within = keeping 2 inside in
+      let first = statement_code cs within p st in
+      let behind = others_code cs within (p + n) rest in
+      let own = start ∷ start ∷ [] in
+      let past : p + n + others_size cs inside.mark.tries inside.loop.tries rest ≡ p + (n + others_size cs inside.mark.tries inside.loop.tries rest) = omega arith in
+      let sf = body start start p (first_part code.lines p first behind s) in
+      let so = others (p + n) (second_part code.lines p n first behind (length-statement cs within p st) s) start start f f in
+      follows_to given code past (follows_then given code (follows_beneath given code (L.keeping own) (bare setting) sf) so)
+
+  pub follows_no_more : (p : ℕ) → LinesStand code.lines p (others_code cs (keeping 2 inside) p done) → InOthers p done
+  follows_no_more p s start greatest f h =
+      let free = inside.free in
+      let one_slot : free + 2 - 1 ≡ own_slot given code setting 1 = omega (arith, g.free) in
+      let ends = subst (λ k. Stand code.lines p (I.Load k ∷ I.Now ∷ I.Max ∷ I.At ∷ [])) one_slot (straight_stands code.lines p inside.mark (block_ends (keeping 2 inside)) s) in
+      follows_to given code (omega arith) (follows_parallel_end given code setting p start greatest h ends)
+
+  pub follows_line : (ln : ℕ) (st : Statement) (rest : Block) → IsDone st → ((p : ℕ) → LinesStand code.lines p (others_code cs (keeping 2 inside) p rest) → InOthers p rest) → (p : ℕ) → LinesStand code.lines p (others_code cs (keeping 2 inside) p (line_then ln st rest)) → InOthers p (line_then ln st rest)
+  follows_line ln st rest body others p s start greatest f h =
+      let n = statement_size cs inside.mark.tries inside.loop.tries st in
+      let nr = others_size cs inside.mark.tries inside.loop.tries rest in
       let free = inside.free in
       let within = keeping 2 inside in
-      let begins = I.Load (free + 2 - 2) ∷ I.At ∷ [] in
-      let ends = I.Load (free + 2 - 1) ∷ I.Now ∷ I.Max ∷ I.Store (free + 2 - 1) ∷ [] in
-      let cb = straight inside.mark begins in
-      let cs' = statement_code cs within (place + 2) st in
-      let ce = straight inside.mark ends in
-      let cr = parallel_code cs within (place + 2 + ns + 4) rest in
-      let front = first_part code.lines place (cb ++ cs' ++ ce) cr s in
-      let front2 = first_part code.lines place (cb ++ cs') ce front in
-      let sb = straight_stands code.lines place inside.mark begins (first_part code.lines place cb cs' front2) in
-      let ss = second_part code.lines place 2 cb cs' refl front2 in
-      let long : length (cb ++ cs') ≡ 2 + ns = length-append cb cs' ∙ omega (arith, length-statement cs within (place + 2) st) in
-      let se = straight_stands code.lines (place + (2 + ns)) inside.mark ends (second_part code.lines place (2 + ns) (cb ++ cs') ce long front) in
-      let longer : length (cb ++ cs' ++ ce) ≡ 2 + ns + 4 = length-append (cb ++ cs') ce ∙ omega (arith, long) in
-      let sr = second_part code.lines place (2 + ns + 4) (cb ++ cs' ++ ce) cr longer s in
+      let is = next_begins within in
+      let begins = straight inside.mark is in
+      let own = statement_code cs within (p + 6) st in
+      let behind = others_code cs within (p + 6 + n) rest in
+      let front = first_part code.lines p (begins ++ own) behind s in
+      let sb = straight_stands code.lines p inside.mark is (first_part code.lines p begins own front) in
+      let ss = second_part code.lines p 6 begins own refl front in
+      let long : length (begins ++ own) ≡ 6 + n = length-append begins own ∙ omega (arith, length-statement cs within (p + 6) st) in
+      let at_rest : p + (6 + n) ≡ p + 6 + n = omega arith in
+      let sr = subst (λ q. LinesStand code.lines q behind) at_rest (second_part code.lines p (6 + n) (begins ++ own) behind long s) in
       let zero_slot : free + 2 - 2 ≡ own_slot given code setting 0 = omega (arith, g.free) in
       let one_slot : free + 2 - 1 ≡ own_slot given code setting 1 = omega (arith, g.free) in
-      let at_first = subst (λ k. Stand code.lines place (I.Load k ∷ I.At ∷ [])) zero_slot sb in
-      let mid = place + 1 + 1 + ns in
-      let at_mid : place + (2 + ns) ≡ mid = omega arith in
-      let at_end = subst (λ k. Stand code.lines mid (I.Load k ∷ I.Now ∷ I.Max ∷ I.Store k ∷ [])) one_slot (subst (λ p. Stand code.lines p ends) at_mid se) in
-      let at_statement : place + 2 ≡ place + 1 + 1 = omega arith in
-      let first = subst (λ p. Follows given code ⊤ most (deeper own setting) p (p + ns) (holding []) (λ v. ⊤) (λ v. holding []) (statement cs.scope callee st)) at_statement (body start greatest (place + 2) ss) in
-      let at_rest : place + (2 + ns + 4) ≡ place + 2 + ns + 4 = omega arith in
-      let rest_lines = subst (λ p. LinesStand code.lines p cr) at_rest sr in
-      let end_place : place + (2 + (ns + (4 + nr))) ≡ place + 2 + ns + 4 + nr = omega arith in
-      let last = subst (λ p. Stand code.lines p (I.Load (own_slot given code setting 1) ∷ I.At ∷ [])) end_place stands in
-      let after_mid : place + 2 + ns + 4 ≡ mid + 1 + 1 + 1 + 1 = omega arith in
-      let past = place + 2 + ns + 4 + nr + 1 + 1 in
-      let others : (t : ℤ) → Fits64 t → Follows given code ⊤ most setting (mid + 1 + 1 + 1 + 1) past (L.keeping (start ∷ t ∷ [])) (λ v. ⊤) (λ v. holding []) (parallel_block cs.scope callee rest start t) = λ t ft. subst (λ p. Follows given code ⊤ most setting p past (L.keeping (start ∷ t ∷ [])) (λ v. ⊤) (λ v. holding []) (parallel_block cs.scope callee rest start t)) after_mid (others (place + 2 + ns + 4) rest_lines last start t f ft) in
-      let whole = follows_parallel_line given code setting place mid past start greatest (statement cs.scope callee st) (λ t. parallel_block cs.scope callee rest start t) (λ t. moves_of (keeps_parallel Moved Moved moved cs.scope callee known.moves rest start t)) f h at_first first at_end others in
-      subst (λ p. Follows given code ⊤ most setting place (p + 1 + 1) (L.keeping own) (λ v. ⊤) (λ v. holding []) (parallel_block cs.scope callee (line_then ln st rest) start greatest)) (sym end_place) whole
+      let at_begin = subst (λ k. Stand code.lines p (I.Load k ∷ I.Now ∷ I.Max ∷ I.Store k ∷ I.Load (own_slot given code setting 0) ∷ I.At ∷ [])) one_slot (subst (λ k. Stand code.lines p (I.Load (free + 2 - 1) ∷ I.Now ∷ I.Max ∷ I.Store (free + 2 - 1) ∷ I.Load k ∷ I.At ∷ [])) zero_slot sb) in
+      let at_statement : p + 6 ≡ p + 1 + 1 + 1 + 1 + 1 + 1 = omega arith in
+      let next : ℤ → Action ⊤ = λ m. statement cs.scope callee st >> (cursor_now >>= λ t. parallel_block cs.scope callee rest start (int_max m t)) in
+      let turns : (m : ℤ) → Fits64 m → Follows given code ⊤ most setting (p + 1 + 1 + 1 + 1 + 1 + 1) (p + 6 + n + nr) (L.keeping (start ∷ m ∷ [])) (λ v. ⊤) (λ v. holding []) (next m) = λ m fm. subst (λ q. Follows given code ⊤ most setting q (p + 6 + n + nr) (L.keeping (start ∷ m ∷ [])) (λ v. ⊤) (λ v. holding []) (next m)) at_statement (follows_then given code (follows_beneath given code (L.keeping (start ∷ m ∷ [])) (bare setting) (body start m (p + 6) ss)) (others (p + 6 + n) sr start m f fm)) in
+      let past : p + 6 + n + nr ≡ p + (6 + (n + nr)) = omega arith in
+      follows_to given code past (follows_parallel_next given code setting p (p + 6 + n + nr) start greatest next (λ m. moves_of (keeps_parallel Moved Moved moved cs.scope callee known.moves (line_then ln st rest) start m)) f h at_begin turns)

@@ -25,7 +25,7 @@ use Rattle.code_forms.specs.ExpressionCode.{numbers_in}
 use Rattle.code_forms.specs.Operations.{wrapping, unary_instrs, literal, negated, comparison_instrs, builtin_instrs, call_instrs, call_has_value, takes_numbers, array_argument, operation_instrs, method_instrs, method_has_value, wrapped_type}
 use Rattle.code_forms.specs.Programs.{setting_of, plain_names, function_code, function_size, functions_code, code_of_program}
 use Rattle.code_forms.specs.Texts.{texts_of}
-use Rattle.code_forms.specs.Sizes.{unless, when, unary_size, expression_size, arguments_size, effect_size, stored_size, return_size, from_size, exit_size, statement_size, block_size, parallel_size, otherwise_size, handlers_size}
+use Rattle.code_forms.specs.Sizes.{unless, when, unary_size, expression_size, arguments_size, effect_size, stored_size, return_size, from_size, exit_size, statement_size, block_size, parallel_size, others_size, otherwise_size, handlers_size}
 use Rattle.code_forms.specs.Suited.{MethodHasWhatItTakes, operation_numbers, IsSuited, AreSuited, IsSuitedAlone, IfThereSuited, EachSuited, IsSuitedStatement, IsSuitedBlock, IsSuitedOtherwise, AreSuitedHandlers}
 use Rattle.code_forms.proofs.Asked.{asked_short, asked_looping_short}
 use Rattle.code_forms.proofs.StatementLengths.{functions_have_their_size}
@@ -226,7 +226,12 @@ module _ (cs : C.Setting) (plain : List Bytes) where
     parallel_short : (d : Bool) (tries kept room : ℕ) (b : Block) → IsSuitedBlock cs plain false false d b → AreLines room b → tries + room ≤ 15 → parallel_size cs tries kept b ≤ 16 * block_nodes b
     parallel_short d tries kept room done r g t = omega arith
     parallel_short d tries kept room (line_then ln s rest) r g t =
-        omega (arith, statement_short false false d tries kept room 6 s r.0 g.0 t (omega arith) (λ e. absurd (false≢true e)) (λ e. absurd (false≢true e)), parallel_short d tries kept room rest r.1 g.1 t)
+        omega (arith, statement_short false false d tries kept room 6 s r.0 g.0 t (omega arith) (λ e. absurd (false≢true e)) (λ e. absurd (false≢true e)), others_short d tries kept room rest r.1 g.1 t)
+
+    others_short : (d : Bool) (tries kept room : ℕ) (b : Block) → IsSuitedBlock cs plain false false d b → AreLines room b → tries + room ≤ 15 → others_size cs tries kept b ≤ 16 * block_nodes b + 4
+    others_short d tries kept room done r g t = omega arith
+    others_short d tries kept room (line_then ln s rest) r g t =
+        omega (arith, statement_short false false d tries kept room 6 s r.0 g.0 t (omega arith) (λ e. absurd (false≢true e)) (λ e. absurd (false≢true e)), others_short d tries kept room rest r.1 g.1 t)
 
     otherwise_short : (l m d : Bool) (tries kept room : ℕ) (rest : Otherwise) → IsSuitedOtherwise cs plain l m d rest → AreBranches room rest → tries + room ≤ 15 → otherwise_size cs tries kept rest ≤ 16 * otherwise_nodes rest
     otherwise_short l m d tries kept room no_else r g t = omega arith

@@ -12,7 +12,7 @@ use Rattle.core_isa.specs.declared.instr.Instr.TheVariants as I
 use Rattle.code_forms.specs.Setting as C
 use Rattle.code_forms.specs.Lines.{raised}
 use Rattle.code_forms.specs.Sizes.{statement_size, block_size, otherwise_size}
-use Rattle.code_forms.specs.StatementCode.{Inside, keeping, statement_code, block_code, parallel_code, handlers_code, otherwise_code}
+use Rattle.code_forms.specs.StatementCode.{Inside, keeping, statement_code, block_code, parallel_code, others_code, handlers_code, otherwise_code}
 use Rattle.code_forms.specs.Texts.{expression_texts, option_texts, statement_texts, block_texts, otherwise_texts, handler_texts}
 use Rattle.code_forms.proofs.StatementLengths.{length-statement}
 use Rattle.code_follows.specs.Stands.{holding, Setting}
@@ -41,7 +41,7 @@ use Rattle.code_meaning.proofs.Recordings.{follows_record_as}
 use Rattle.code_meaning.proofs.LoopExits.{follows_break_here, follows_continue_here}
 use Rattle.code_meaning.proofs.TryBlocks.{follows_try_do}
 use Rattle.code_meaning.proofs.HandlerBranches.{follows_except}
-use Rattle.code_meaning.proofs.ParallelBlocks.{InParallel, follows_parallel_do, follows_no_more, follows_line}
+use Rattle.code_meaning.proofs.ParallelBlocks.{InOthers, InParallel, follows_parallel_do, follows_none, follows_first, follows_no_more, follows_line}
 use Rattle.code_meaning.proofs.Branches.{follows_branches}
 
 -- a block uses a free slot at least
@@ -80,7 +80,7 @@ module _ (given : List Reply) (code : Code) (cs : C.Setting) (plain : List Bytes
         let tb = in_back cs.texts (option_texts from ++ expression_texts to) (block_texts b) t in
         follows_for given code cs plain callee room known most l may d inside place setting g x from to b r.0 r.1 r.2 (in_front cs.texts (option_texts from) (expression_texts to) tft) (in_back cs.texts (option_texts from) (expression_texts to) tft) (omega (arith, limit, one_slot b)) (λ k i e again past p lines. follows_block b true may d r.3 tb _ p lines k (body_setting setting (i ∷ e ∷ []) again past) (placed_for cs room l may d inside setting again past i e g) (omega (arith, limit, length-append setting.temporaries (i ∷ e ∷ [])))) s
     follows_statement (parallel b) l may d r t inside place s most setting g limit =
-        follows_parallel_do given code cs plain callee room known most l may d inside place setting g b (omega (arith, limit)) (λ p lines. follows_lines b l may d r t inside p lines most setting g (omega (arith, limit))) s
+        follows_parallel_do given code cs plain callee room known most l may d inside place setting g b (omega (arith, limit)) (λ p lines. follows_all b l may d r t inside p lines most setting g (omega (arith, limit))) s
     follows_statement (sequential b) l may d r t inside place s most setting g limit = follows_block b l may d r t inside place s most setting g limit
     follows_statement (record_as name b) l may d r t inside place s most setting g limit =
         follows_record_as given code cs plain callee room known most l may d inside place setting g name b (outside_of cs room l may d inside setting g r.0) (known.named name t.0) (λ lines. follows_block b false false true r.1 t.1 _ (place + 1) lines most (in_record setting) (placed_record cs room l may d inside setting g) limit) s
@@ -97,10 +97,15 @@ module _ (given : List Reply) (code : Code) (cs : C.Setting) (plain : List Bytes
         let past : place + n + m ≡ place + (n + m) = omega arith in
         follows_to given code past (follows_then given code (follows_statement st l may d r.0 (in_front cs.texts (statement_texts st) (block_texts rest) t) inside place (first_part code.lines place a b s) most setting g (omega (arith, limit))) (follows_block rest l may d r.1 (in_back cs.texts (statement_texts st) (block_texts rest) t) inside (place + n) (second_part code.lines place n a b (length-statement cs inside place st) s) most setting g (omega (arith, limit))))
 
-    pub follows_lines : (b : Block) (l may d : Bool) → IsSuitedBlock cs plain false false d b → TextsIn cs.texts (block_texts b) → (inside : Inside) (place : ℕ) → LinesStand code.lines place (parallel_code cs (keeping 2 inside) place b) → (most : ℕ) (setting : Setting) (g : Placed cs room l may d inside setting) → length setting.temporaries + (2 + block_slots b) ≤ setting.limit → InParallel given code cs plain callee room known most l may d inside place setting g place b
-    follows_lines done l may d r t inside place s most setting g limit = follows_no_more given code cs plain callee room known most l may d inside place setting g
-    follows_lines (line_then ln st rest) l may d r t inside place s most setting g limit =
-        follows_line given code cs plain callee room known most l may d inside place setting g ln st rest (λ a b p lines. follows_statement st false false d r.0 (in_front cs.texts (statement_texts st) (block_texts rest) t) (keeping 2 inside) p lines most (deeper (a ∷ b ∷ []) setting) (placed_parallel cs room l may d inside setting a b g) (omega (arith, limit, length-append setting.temporaries (a ∷ b ∷ [])))) (λ p lines. follows_lines rest l may d r.1 (in_back cs.texts (statement_texts st) (block_texts rest) t) inside p lines most setting g (omega (arith, limit))) s
+    pub follows_all : (b : Block) (l may d : Bool) → IsSuitedBlock cs plain false false d b → TextsIn cs.texts (block_texts b) → (inside : Inside) (place : ℕ) → LinesStand code.lines place (parallel_code cs (keeping 2 inside) place b) → (most : ℕ) (setting : Setting) (g : Placed cs room l may d inside setting) → length setting.temporaries + (2 + block_slots b) ≤ setting.limit → InParallel given code cs plain callee room known most l may d inside place setting g place b
+    follows_all done l may d r t inside place s most setting g limit = follows_none given code cs plain callee room known most l may d inside place setting g place
+    follows_all (line_then ln st rest) l may d r t inside place s most setting g limit =
+        follows_first given code cs plain callee room known most l may d inside place setting g ln st rest (λ a b p lines. follows_statement st false false d r.0 (in_front cs.texts (statement_texts st) (block_texts rest) t) (keeping 2 inside) p lines most (deeper (a ∷ b ∷ []) setting) (placed_parallel cs room l may d inside setting a b g) (omega (arith, limit, length-append setting.temporaries (a ∷ b ∷ [])))) (λ p lines. follows_others rest l may d r.1 (in_back cs.texts (statement_texts st) (block_texts rest) t) inside p lines most setting g (omega (arith, limit))) place s
+
+    pub follows_others : (b : Block) (l may d : Bool) → IsSuitedBlock cs plain false false d b → TextsIn cs.texts (block_texts b) → (inside : Inside) (place : ℕ) → LinesStand code.lines place (others_code cs (keeping 2 inside) place b) → (most : ℕ) (setting : Setting) (g : Placed cs room l may d inside setting) → length setting.temporaries + (2 + block_slots b) ≤ setting.limit → InOthers given code cs plain callee room known most l may d inside place setting g place b
+    follows_others done l may d r t inside place s most setting g limit = follows_no_more given code cs plain callee room known most l may d inside place setting g place s
+    follows_others (line_then ln st rest) l may d r t inside place s most setting g limit =
+        follows_line given code cs plain callee room known most l may d inside place setting g ln st rest (λ a b p lines. follows_statement st false false d r.0 (in_front cs.texts (statement_texts st) (block_texts rest) t) (keeping 2 inside) p lines most (deeper (a ∷ b ∷ []) setting) (placed_parallel cs room l may d inside setting a b g) (omega (arith, limit, length-append setting.temporaries (a ∷ b ∷ [])))) (λ p lines. follows_others rest l may d r.1 (in_back cs.texts (statement_texts st) (block_texts rest) t) inside p lines most setting g (omega (arith, limit))) place s
 
     pub follows_otherwise : (rest : Otherwise) (l may d : Bool) → IsSuitedOtherwise cs plain l may d rest → TextsIn cs.texts (otherwise_texts rest) → (inside : Inside) (place : ℕ) → LinesStand code.lines place (otherwise_code cs inside place rest) → (most : ℕ) (setting : Setting) → Placed cs room l may d inside setting → length setting.temporaries + otherwise_slots rest ≤ setting.limit → Claim most setting place (otherwise_size cs inside.mark.tries inside.loop.tries rest) (otherwise cs.scope callee rest)
     follows_otherwise no_else l may d r t inside place s most setting g limit = follows_to given code (omega arith) (follows_skip given code)

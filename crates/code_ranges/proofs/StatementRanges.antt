@@ -15,8 +15,8 @@ use Rattle.code_forms.specs.ExpressionCode.{expression_code}
 use Rattle.code_forms.specs.Lines.{line, raised, with_handler, with_recording, straight}
 use Rattle.code_forms.specs.Operations.{operator_instrs}
 use Rattle.code_forms.specs.Setting.{Setting, slot_of, length_of, index_of_text}
-use Rattle.code_forms.specs.Sizes.{expression_size, stored_size, return_size, from_size, statement_size, block_size, parallel_size, otherwise_size, handlers_size}
-use Rattle.code_forms.specs.StatementCode.{Inside, keeping, in_loop, under, code_of_name, returning, no_value, result_mark, moved, exit, test_place, then_place, else_place, end_place, turns_place, for_begins, for_goes_on, value_code, second_code, return_code, from_code, stored_code, statement_code, block_code, parallel_code, otherwise_code, handlers_code}
+use Rattle.code_forms.specs.Sizes.{expression_size, stored_size, return_size, from_size, statement_size, block_size, parallel_size, others_size, otherwise_size, handlers_size}
+use Rattle.code_forms.specs.StatementCode.{Inside, keeping, in_loop, under, code_of_name, returning, no_value, result_mark, moved, exit, test_place, then_place, else_place, end_place, turns_place, for_begins, for_goes_on, next_begins, block_ends, value_code, second_code, return_code, from_code, stored_code, statement_code, block_code, parallel_code, others_code, otherwise_code, handlers_code}
 use Rattle.code_ranges.specs.Fits.{SettingFits}
 use Rattle.code_ranges.specs.Ready.{ExpressionFits}
 use Rattle.code_ranges.specs.ReadyStatements.{HasSpace, FitsIfThere, EachFits, StatementFits, BlockFits, OtherwiseFits, HandlersFit}
@@ -211,18 +211,13 @@ module _ (setting : Setting) (sound : SettingFits setting) where
     statement_ranged inside place (parallel b) s f l p =
         let m = inside.mark in
         let begin = I.Now ∷ I.Dup ∷ I.Store inside.free ∷ I.Store (inside.free + 1) ∷ [] in
-        let end = I.Load (inside.free + 1) ∷ I.At ∷ [] in
         let short = free_is m inside.free s in
         let short' = short_is (inside.free + 1) (omega (arith, s.slots)) in
         both_fit
-        (straight m begin ++ parallel_code setting (keeping 2 inside) (place + 4) b)
-        (straight m end)
-        (both_fit
         (straight m begin)
         (parallel_code setting (keeping 2 inside) (place + 4) b)
         (bare_row m inside.free begin s (omega arith) (refl, (refl, (short, (short', tt)))))
-        (parallel_ranged (keeping 2 inside) (place + 4) b f.0 f.1 l (omega (arith, p))))
-        (bare_row m inside.free end s (omega arith) (short', (refl, tt)))
+        (parallel_ranged (keeping 2 inside) (place + 4) b f.0 f.1 l (omega (arith, p)))
     statement_ranged inside place (sequential b) s f l p = block_ranged inside place b s f l p
     statement_ranged inside place (record_as name b) s f l p =
         let m = inside.mark in
@@ -271,26 +266,32 @@ module _ (setting : Setting) (sound : SettingFits setting) where
     pub parallel_ranged : (inside : Inside) (place : ℕ) (b : Block) → HasSpace inside.mark inside.free → BlockFits setting inside.mark inside.free b → LoopFits inside.loop → place + parallel_size setting inside.mark.tries inside.loop.tries b < 2 ^ 32 → LinesFit (parallel_code setting inside place b)
     parallel_ranged inside place done s f l p = no_lines
     parallel_ranged inside place (line_then ln st rest) s f l p =
+        let next = place + statement_size setting inside.mark.tries inside.loop.tries st in
+        both_fit
+        (statement_code setting inside place st)
+        (others_code setting inside next rest)
+        (statement_ranged inside place st s f.0 l (omega (arith, p)))
+        (others_ranged inside next rest s f.1 l (omega (arith, p)))
+
+    others_ranged : (inside : Inside) (place : ℕ) (b : Block) → HasSpace inside.mark inside.free → BlockFits setting inside.mark inside.free b → LoopFits inside.loop → place + others_size setting inside.mark.tries inside.loop.tries b < 2 ^ 32 → LinesFit (others_code setting inside place b)
+    others_ranged inside place done s f l p =
+        let one = short_is (inside.free - 1) (omega (arith, s.slots)) in
+        bare_row inside.mark inside.free (block_ends inside) s (omega arith) (one, (refl, (refl, (refl, tt))))
+    others_ranged inside place (line_then ln st rest) s f l p =
         let m = inside.mark in
-        let begin = I.Load (inside.free - 2) ∷ I.At ∷ [] in
-        let end = I.Load (inside.free - 1) ∷ I.Now ∷ I.Max ∷ I.Store (inside.free - 1) ∷ [] in
-        let own = statement_code setting inside (place + 2) st in
-        let next = place + 2 + statement_size setting m.tries inside.loop.tries st + 4 in
+        let own = statement_code setting inside (place + 6) st in
+        let next = place + 6 + statement_size setting m.tries inside.loop.tries st in
         let two = short_is (inside.free - 2) (omega (arith, s.slots)) in
         let one = short_is (inside.free - 1) (omega (arith, s.slots)) in
         both_fit
-        ((straight m begin ++ own) ++ straight m end)
-        (parallel_code setting inside next rest)
+        (straight m (next_begins inside) ++ own)
+        (others_code setting inside next rest)
         (both_fit
-        (straight m begin ++ own)
-        (straight m end)
-        (both_fit
-        (straight m begin)
+        (straight m (next_begins inside))
         own
-        (bare_row m inside.free begin s (omega arith) (two, (refl, tt)))
-        (statement_ranged inside (place + 2) st s f.0 l (omega (arith, p))))
-        (bare_row m inside.free end s (omega arith) (one, (refl, (refl, (one, tt))))))
-        (parallel_ranged inside next rest s f.1 l (omega (arith, p)))
+        (bare_row m inside.free (next_begins inside) s (omega arith) (one, (refl, (refl, (one, (two, (refl, tt)))))))
+        (statement_ranged inside (place + 6) st s f.0 l (omega (arith, p))))
+        (others_ranged inside next rest s f.1 l (omega (arith, p)))
 
     pub otherwise_ranged : (inside : Inside) (place : ℕ) (rest : Otherwise) → HasSpace inside.mark inside.free → OtherwiseFits setting inside.mark inside.free rest → LoopFits inside.loop → place + otherwise_size setting inside.mark.tries inside.loop.tries rest < 2 ^ 32 → LinesFit (otherwise_code setting inside place rest)
     otherwise_ranged inside place no_else s f l p = no_lines

@@ -4,7 +4,7 @@ use Rattle.kern_syntax.specs.Tree.{Bytes, Expression, Statement, pass, break, co
 use Rattle.core_isa.specs.declared.code.Mark.{Mark}
 use Rattle.code_forms.specs.Lines.{raised, with_handler, with_recording}
 use Rattle.code_forms.specs.Setting.{Setting, slot_of}
-use Rattle.code_forms.specs.Sizes.{statement_size, block_size, parallel_size, otherwise_size, handlers_size}
+use Rattle.code_forms.specs.Sizes.{block_size}
 use Rattle.code_forms.specs.StatementCode.{Inside}
 use Rattle.code_ranges.specs.Ready.{ExpressionFits}
 
@@ -71,32 +71,8 @@ module _ (setting : Setting) where
     HandlersFit mark free no_handler = Unit {0}
     HandlersFit mark free (except_then line x b rest) = BlockFits mark free b × HandlersFit mark free rest
 
--- a statement can be put at a place
-pub record IsReadyStatement (setting : Setting) (inside : Inside) (place : ℕ) (s : Statement) : Type 0 where
-  pub space : HasSpace inside.mark inside.free
-  pub fits : StatementFits setting inside.mark inside.free s
-  pub places : place + statement_size setting inside.mark.tries inside.loop.tries s < 2 ^ 31
-
--- a block can
+-- a block can be put at a place
 pub record IsReadyBlock (setting : Setting) (inside : Inside) (place : ℕ) (b : Block) : Type 0 where
   pub space : HasSpace inside.mark inside.free
   pub fits : BlockFits setting inside.mark inside.free b
   pub places : place + block_size setting inside.mark.tries inside.loop.tries b < 2 ^ 31
-
--- the statements of a parallel block can
-pub record IsReadyParallel (setting : Setting) (inside : Inside) (place : ℕ) (b : Block) : Type 0 where
-  pub space : HasSpace inside.mark inside.free
-  pub fits : BlockFits setting inside.mark inside.free b
-  pub places : place + parallel_size setting inside.mark.tries inside.loop.tries b < 2 ^ 31
-
--- the further branches of an `if` can
-pub record AreReadyBranches (setting : Setting) (inside : Inside) (place : ℕ) (rest : Otherwise) : Type 0 where
-  pub space : HasSpace inside.mark inside.free
-  pub fits : OtherwiseFits setting inside.mark inside.free rest
-  pub places : place + otherwise_size setting inside.mark.tries inside.loop.tries rest < 2 ^ 31
-
--- handlers can
-pub record AreReadyHandlers (setting : Setting) (inside : Inside) (place : ℕ) (handlers : Handlers) : Type 0 where
-  pub space : HasSpace inside.mark inside.free
-  pub fits : HandlersFit setting inside.mark inside.free handlers
-  pub places : place + handlers_size setting inside.mark.tries inside.loop.tries handlers < 2 ^ 31

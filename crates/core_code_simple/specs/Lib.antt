@@ -1,2 +1,3 @@
 pub mod InsideOf
 pub mod Parts
+pub mod ReadyStatement

@@ -4,10 +4,10 @@ ghost use Rattle.std.specs.Prelude.{◌≡◌, ◌+◌, ◌<◌, ◌++◌, OnOk,
 ghost use Rattle.kern_syntax.specs.TreeOf.{expression_of, statement_of};
 ghost use Rattle.code_forms.specs.Sizes.{statement_size};
 ghost use Rattle.code_forms.specs.StatementCode.{statement_code};
-ghost use Rattle.code_ranges.specs.ReadyStatements.{IsReadyStatement};
 ghost use Rattle.core_code_names.specs.SettingOf.{setting_of};
 ghost use Rattle.core_code_simple.specs.InsideOf.{inside_of};
 ghost use Rattle.core_code_simple.specs.Parts.{IsSimple};
+ghost use Rattle.core_code_simple.specs.ReadyStatement.{IsReadyStatement};
 
 use crate::inside::Inside;
 use crate::leaves::put_behind_handlers;

@@ -1,10 +1,10 @@
 -- Parts of the sizes of statements, as they are counted.
-use Rattle.std.specs.Prelude.{ℕ, ◌+◌}
+use Rattle.std.specs.Prelude.{ℕ, zero, suc, ◌+◌}
 use Rattle.kern_syntax.specs.Tree.{Expression, Statement, if_then, while_do, for_range, parallel, sequential, record_as, try_do, Block, Otherwise}
 use Rattle.code_forms.specs.declared.test_kind.TestKind.TheVariants.{Branch}
 use Rattle.code_forms.specs.Conditions.{is_turned, asked, test_size}
 use Rattle.code_forms.specs.Setting.{Setting}
-use Rattle.code_forms.specs.Sizes.{block_size, exit_size, expression_size, otherwise_size, statement_size}
+use Rattle.code_forms.specs.Sizes.{block_size, exit_size, expression_size, others_size, otherwise_size, parallel_size, statement_size}
 
 -- how many instructions a statement without a block has; 0 for one with a block
 abbrev pub simple_size : Setting → (tries kept : ℕ) → Statement → ℕ
@@ -25,3 +25,8 @@ branch_size setting tries kept c b =
 -- of what follows a branch, with the jump past it
 abbrev pub followed_size : Setting → (tries kept : ℕ) → Otherwise → ℕ
 followed_size setting tries kept rest = exit_size setting rest + otherwise_size setting tries kept rest
+
+-- of the statements of a parallel block that are left behind so many
+abbrev pub left_size : Setting → (tries kept done : ℕ) → Block → ℕ
+left_size setting tries kept zero b = parallel_size setting tries kept b
+left_size setting tries kept (suc done) b = others_size setting tries kept b

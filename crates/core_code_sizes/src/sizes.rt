@@ -52,7 +52,7 @@ pub fn statement_size(setting: &Setting<'_>, tries: u32, kept: u32, statement: &
                 + expression_size(setting, to).size
                 + 14
         }
-        StmtKind::Parallel(body) => parallel_size(setting, tries, kept, body) + 6,
+        StmtKind::Parallel(body) => parallel_size(setting, tries, kept, body) + 4,
         StmtKind::Sequential(body) => block_size(setting, tries, kept, body),
         StmtKind::Record(_, body) => block_size(setting, tries, kept, body) + 2,
         StmtKind::Try(body, handlers) => {
@@ -81,10 +81,17 @@ fn parallel_size(setting: &Setting<'_>, tries: u32, kept: u32, block: &Block) ->
     ensures { result ≡ parallel_size (setting_of setting.now) tries kept (block_of block.now) }
 {
     let mut size = 0;
-    for statement in block.statements.iter() {
-        size += statement_size(setting, tries, kept, &statement.kind) + 6;
+    for (number, statement) in block.statements.iter().enumerate() {
+        if number > 0 {
+            size += 6;
+        }
+        size += statement_size(setting, tries, kept, &statement.kind);
     }
-    size
+    if block.statements.is_empty() {
+        size
+    } else {
+        size + 4
+    }
 }
 
 ghost use Rattle.kern_syntax.specs.TreeOf.{expression_of};

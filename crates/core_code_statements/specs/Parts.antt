@@ -1,5 +1,5 @@
 -- Parts of the code of statements, as they are put.
-use Rattle.std.specs.Prelude.{ℕ, ◌+◌, List, [], ◌∷◌, ◌++◌, Bool, true, false}
+use Rattle.std.specs.Prelude.{ℕ, zero, suc, ◌+◌, List, [], ◌∷◌, ◌++◌, Bool, true, false}
 use Rattle.kern_syntax.specs.Tree.{Bytes, Expression, Block, Otherwise, no_else, Handlers, no_handler, except_then}
 use Rattle.core_isa.specs.declared.code.CodeLine.{CodeLine}
 use Rattle.core_isa.specs.declared.instr.Instr.TheVariants as I
@@ -8,7 +8,7 @@ use Rattle.code_forms.specs.Conditions.{is_turned, asked, test_instrs}
 use Rattle.code_forms.specs.Lines.{line, raised, straight, with_handler}
 use Rattle.code_forms.specs.Setting.{Setting}
 use Rattle.code_forms.specs.Sizes.{block_size, exit_size, expression_size, when}
-use Rattle.code_forms.specs.StatementCode.{Inside, keeping, in_loop, under, code_of_name, exit, test_place, then_place, for_begins, for_goes_on, value_code, second_code, block_code, otherwise_code}
+use Rattle.code_forms.specs.StatementCode.{Inside, keeping, in_loop, under, code_of_name, exit, test_place, then_place, for_begins, for_goes_on, value_code, second_code, block_code, parallel_code, others_code, otherwise_code}
 
 -- further branches follow, or an `else`
 abbrev pub is_followed : Otherwise → Bool
@@ -88,3 +88,8 @@ module _ (setting : Setting) (inside : Inside) where
   abbrev pub handler_size : Handlers → ℕ
   handler_size no_handler = 0
   handler_size (except_then _ name b rest) = 5 + (block_size setting inside.mark.tries inside.loop.tries b + 1)
+
+-- the statements of a parallel block that are left behind so many
+abbrev pub left_code : Setting → Inside → (done place : ℕ) → Block → List CodeLine
+left_code setting inside zero place b = parallel_code setting inside place b
+left_code setting inside (suc done) place b = others_code setting inside place b

@@ -46,15 +46,15 @@ pub fn put_parallel(
         ..inside
     };
     put_all(lines, inside.mark, &begins)?;
-    put_together(lines, setting, together, body)?;
-    put_all(lines, inside.mark, &[Instr::Load(greatest), Instr::At])
+    put_together(lines, setting, together, body)
 }
 
 ghost use Rattle.std.specs.Prelude.{◌≤◌};
 ghost use Rattle.code_forms.specs.Sizes.{parallel_size};
 ghost use Rattle.code_forms.specs.StatementCode.{parallel_code};
 
-// Each statement of a parallel block begins at the start, and its end counts where it is the greatest.
+// The first statement of a parallel block begins where the cursor is, and each other at the start; of their ends the greatest
+// counts.
 #[cycle(statements)]
 fn put_together(
     lines: &mut Vec<CodeLine>,
@@ -73,17 +73,23 @@ fn put_together(
         + parallel_size (setting_of setting.now) inside.mark.tries inside.enclosing.tries (block_of body.now)) }
 {
     let (start, greatest) = (inside.free - 2, inside.free - 1);
-    let begins = [Instr::Load(start), Instr::At];
-    let ends = [
+    let next_begins = [
         Instr::Load(greatest),
         Instr::Now,
         Instr::Max,
         Instr::Store(greatest),
+        Instr::Load(start),
+        Instr::At,
     ];
-    for statement in body.statements.iter() {
-        put_all(lines, inside.mark, &begins)?;
+    let block_ends = [Instr::Load(greatest), Instr::Now, Instr::Max, Instr::At];
+    for (number, statement) in body.statements.iter().enumerate() {
+        if number > 0 {
+            put_all(lines, inside.mark, &next_begins)?;
+        }
         put_statement(lines, setting, inside, &statement.kind)?;
-        put_all(lines, inside.mark, &ends)?;
     }
-    Ok(())
+    if body.statements.is_empty() {
+        return Ok(());
+    }
+    put_all(lines, inside.mark, &block_ends)
 }
