@@ -1,9 +1,11 @@
 use Rattle.std.proofs.Common.{rules, ◌≡◌, ◌≤◌, ◌<◌, ◌*◌, Some, ◌+◌, ◌++◌, drop, ap, subst, subst₂, sym, ◌∙◌, FitsSigned, to_z, of_z, ◌-◌, suc, true, false, Ok, arith}
 use Rattle.std.specs.Prelude.{Bool, bytes_eq, option_to_list, pos, ◌+ℤ◌, ◌<ℤ◌}
 use Rattle.std.specs.Int.{w64, int_gap}
+use Rattle.std.proofs.lemmas.Grind.{common_steps}
 use Rattle.std.proofs.lemmas.Int.{to_z-of_z}
 use Rattle.std.proofs.lemmas.Result.{err_from_is_err_and}
 use Rattle.kern_syntax.specs.declared.expression.Argument.TheFolds.{the_lemmas}
+use Rattle.kern_syntax.specs.declared.statement.StmtKind.TheFolds as Statements
 use Rattle.kern_syntax.specs.Tree.{FunctionTree, binary, no_more}
 use Rattle.kern_syntax.specs.TreeOf.{expression_of, arguments_of, argument_of, block_of, function_of}
 use Rattle.kern_calls.specs.Types.{function_named, names_of, type_of}
@@ -24,6 +26,31 @@ use Rattle.timeline_sem.specs.Statements.{block, for_turns, turn, while_loop, wh
 use Rattle.timeline_sem.specs.Programs.{function_call, initial_values}
 use Rattle.meaning_runs.proofs.Turning.{for_here, next_fits, while_here}
 use Rattle.meaning_runs.proofs.+runs.Goals as goal
+
+-- left to the prover these would be sought by `search` first, for minutes and in vain
+pub blocks::run_block-run_statement-requires : goal.blocks::run_block-run_statement-requires
+blocks::run_block-run_statement-requires t c = grind (Statements.the_lemmas, arith, common_steps)
+
+pub blocks::run_block-returns : goal.blocks::run_block-returns
+blocks::run_block-returns t c = grind (Statements.the_lemmas, arith, common_steps)
+
+pub expressions::evaluate_all-evaluate_argument-requires : goal.expressions::evaluate_all-evaluate_argument-requires
+expressions::evaluate_all-evaluate_argument-requires t c = grind (the_lemmas, arith, common_steps)
+
+pub simple::evaluate_each-evaluate-requires : goal.simple::evaluate_each-evaluate-requires
+simple::evaluate_each-evaluate-requires t c = grind (Statements.the_lemmas, arith, common_steps)
+
+pub simple::evaluate_each-returns : goal.simple::evaluate_each-returns
+simple::evaluate_each-returns t c = grind (Statements.the_lemmas, arith, common_steps)
+
+pub timed::handle-returns : goal.timed::handle-returns
+timed::handle-returns t c = grind (Statements.the_lemmas, arith, common_steps)
+
+pub timed::run_parallel-run_statement-requires : goal.timed::run_parallel-run_statement-requires
+timed::run_parallel-run_statement-requires t c = grind (Statements.the_lemmas, arith, common_steps)
+
+pub timed::run_parallel-returns : goal.timed::run_parallel-returns
+timed::run_parallel-returns t c = grind (Statements.the_lemmas, arith, common_steps)
 
 pub expressions::evaluate_all-returns-in_err-number : goal.expressions::evaluate_all-returns-in_err-number
 expressions::evaluate_all-returns-in_err-number t c =
