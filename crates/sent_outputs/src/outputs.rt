@@ -51,7 +51,7 @@ fn output_of(number: u64, distance: u64) -> Option<Event>
     ensures address { IfSome result (λ event. event.address ≡ 0) }
 {
     let cycle = number.checked_mul(distance)?.checked_add(1)?;
-    if cycle >= HORIZON {
+    if cycle > HORIZON {
         return None;
     }
     Some(Event {
