@@ -4,8 +4,9 @@
     python3 docs/definitions.py [NAME]
 
 NAME is a definition that the clause cites: without it GivesDue, that of the clause `due` of `sim_top`. Definitions are
-followed through the files of specs/, in the order in which a reader meets them from the top, and added up by file. Types of
-the code (Rust enums and structs) are named at the end, and those of the standard library aren't followed.
+followed through the files of specs/, those too that a crate passes on from one below, in the order in which a reader meets
+them from the top, and added up by file. Types of the code (Rust enums and structs) are named at the end, and those of the
+standard library aren't followed.
 """
 import collections
 import pathlib
@@ -14,7 +15,8 @@ import signal
 import sys
 
 ROOT = pathlib.Path(__file__).resolve().parent.parent
-USE = re.compile(r"^use Rattle\.(\w+)\.specs\.([\w.]+?)(?:\.\{(.*)\}| as (\w+))$")
+USE = re.compile(r"^(?:pub )?use Rattle\.(\w+)\.specs\.([\w.]+?)(?:\.\{(.*)\}| as (\w+))$")
+PASSED_ON = re.compile(r"^pub use Rattle\.(\w+)\.specs\.(\w+)$", re.M)
 HEAD = re.compile(r"^\s*(?:abbrev )?pub (record |data )?([^\s:(]+)")
 WORD = re.compile(r"(?:(\w+)\.)?([^\s(){},.;:]+)")
 
@@ -65,17 +67,32 @@ class File:
                     yield (None, None, name)
 
 
+def where_defined(files, passed_on, crate, module, name):
+    """Where a word is defined that a file has from another one, or a crate's whole file from a crate below."""
+    while True:
+        file = files.get((crate, module))
+        if (crate, module) in passed_on:
+            crate, module = passed_on[(crate, module)]
+        elif file and name not in file.paragraphs and name in file.names:
+            crate, module, name = file.names[name]
+        else:
+            return crate, module, name
+
+
 def follow(start):
-    files = {}
+    files, passed_on = {}, {}
     for path in ROOT.glob("crates/*/specs/*.antt"):
-        files[(path.parent.parent.name, path.stem)] = File(path)
+        crate = path.parent.parent.name
+        files[(crate, path.stem)] = File(path)
+        if path.stem == "Lib":
+            passed_on.update({(crate, module): (other, module) for other, module in PASSED_ON.findall(path.read_text())})
     places = [(*key, start) for key, file in files.items() if start in file.paragraphs]
     if not places:
         sys.exit(f"no definition has the name {start}")
     waiting = collections.deque(places[:1])
     met, types = {}, {}
     while waiting:
-        crate, module, name = waiting.popleft()
+        crate, module, name = where_defined(files, passed_on, *waiting.popleft())
         if (crate, module) not in files:
             if module.startswith("declared.") and crate != "std":
                 types[(crate, module.split(".")[-2] if module.endswith("TheVariants") else module.split(".")[-1])] = True

@@ -1,8 +1,0 @@
-use Rattle.std.proofs.Common.{ap, ◌∙◌}
-use Rattle.kern_calls.specs.Calls.{look_up}
-use Rattle.kern_expression_types.proofs.Named.{lookup-named}
-use Rattle.kern_expression_types.proofs.names.FunctionNumbers.get.Goals as goal
-
-pub returns : goal.returns
-returns c =
-    c.copied.ensures ∙ c.get.ensures.value ∙ lookup-named c.args.name.now c.self.inside.numbers.entries ∙ ap (λ names. look_up names c.args.name.now) c.self.view_is
