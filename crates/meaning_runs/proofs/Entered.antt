@@ -1,16 +1,18 @@
--- A function that is found, and one that is left.
-use Rattle.std.proofs.Common.{◌≡◌, ◌≤◌, ◌<◌, ◌+◌, ◌-◌, ◌*◌, ℕ, zero, suc, List, [], ◌∷◌, Some, Result, ap, refl, sym, subst, subst₂, ◌∙◌, arith, find}
+-- A call that enters a function, one that is found, and one that is left.
+use Rattle.std.proofs.Common.{◌≡◌, ◌≤◌, ◌<◌, ◌+◌, ◌*◌, ℕ, zero, suc, List, [], ◌∷◌, Some, Result, ap, sym, subst, subst₂, ◌∙◌, arith, find}
 use Rattle.std.specs.Prelude.{ℤ, Bool, true, false, ⊤, cond}
 use Rattle.std.proofs.lemmas.Option.{none-some, same_Some}
+use Rattle.rtio_types.specs.declared.outcome.Exc.TheVariants.{StackOverflow}
 use Rattle.rtio_types.specs.declared.request.Value.{Value}
 use Rattle.kern_syntax.specs.Tree.{Bytes, FunctionTree, ProgramTree}
-use Rattle.kern_calls.specs.Types.{Names, names_of}
+use Rattle.kern_calls.specs.Types.{Names, function_named, names_of}
 use Rattle.meaning_state.specs.declared.early.Early.{Early}
 use Rattle.meaning_state.specs.Does.{Does}
+use Rattle.meaning_steps.specs.Entering.{enter_call}
 use Rattle.meaning_steps.specs.RunnableStatements.{AreRunnableFunctions, IsRunnableBlock}
-use Rattle.timeline_sem.specs.Actions.{State, Completion}
+use Rattle.timeline_sem.specs.Actions.{State, raised, Completion, normal, early, Action, go_on, give, stop, take_unit}
 use Rattle.timeline_sem.specs.Expressions.{Callee}
-use Rattle.timeline_sem.specs.Programs.{function_body, initial_values, leave_function}
+use Rattle.timeline_sem.specs.Programs.{function_body, function_call, initial_values, leave_function, optional_body}
 use Rattle.timeline_sem.specs.Statements.{block}
 use Rattle.meaning_runs.proofs.Sizes.{block_size, program_size}
 
@@ -32,12 +34,42 @@ found_smaller (g ∷ rest) test f is = by_test (test g) is (λ is. found_smaller
     by_test true is later = subst (λ f. 8 + block_size f.body ≤ program_size (g ∷ rest)) (same_Some g f is) (omega arith)
     by_test false is later = omega (arith, later is)
 
--- with room for one function less, its body is below the call
-pub room_falls : (room size body : ℕ) → (room ≡ 0 → ⊥) → 8 + body ≤ size → (room - 1) * size + (body + 1) < room * size
-room_falls zero size body some small = absurd (some refl)
-room_falls (suc r) size body some small =
-    let less : suc r - 1 ≡ r = omega arith in
-    rw less (omega (arith, small))
+module _ (program : ProgramTree) (name : Bytes) (args : List ℤ) (s after : State) where
+  -- a call that enters a function does what this does
+  pub call_entered : (room left : ℕ) → enter_call room s ≡ normal left after → function_call program room name args s ≡ optional_body program (function_call program left) (function_named program name) args after
+  call_entered zero left is = absurd (by_unit (take_unit s) is)
+    where
+      by_unit : (m : Completion ⊤) → go_on m (λ a. stop (raised StackOverflow)) ≡ normal left after → ⊥
+      by_unit (normal a s) is = cc
+      by_unit (early reason s) is = cc
+  call_entered (suc room) left is = by_unit (take_unit s) is
+    where
+      body : ℕ → Action ℤ
+      body left = optional_body program (function_call program left) (function_named program name) args
+
+      by_unit : (m : Completion ⊤) → go_on m (λ a. give room) ≡ normal left after → go_on m (λ a. body room) ≡ body left after
+      by_unit (normal a s) is =
+          let same : room ≡ left = cc in
+          let then : s ≡ after = cc in
+          λ i. body (same i) (then i)
+      by_unit (early reason s) is = cc
+
+-- a function that is entered leaves room for one less
+pub room_left : (room left : ℕ) (s after : State) → enter_call room s ≡ normal left after → suc left ≡ room
+room_left zero left s after is = by_unit (take_unit s) is
+  where
+    by_unit : (m : Completion ⊤) → go_on m (λ a. stop (raised StackOverflow)) ≡ normal left after → suc left ≡ 0
+    by_unit (normal a s) is = cc
+    by_unit (early reason s) is = cc
+room_left (suc room) left s after is = by_unit (take_unit s) is
+  where
+    by_unit : (m : Completion ⊤) → go_on m (λ a. give room) ≡ normal left after → suc left ≡ suc room
+    by_unit (normal a s) is = cc
+    by_unit (early reason s) is = cc
+
+-- so its body is below the call
+pub room_falls : (room left size body : ℕ) → suc left ≡ room → 8 + body ≤ size → left * size + (body + 1) < room * size
+room_falls room left size body is small = rw (sym is) (omega (arith, small))
 
 -- a function does what its body does, with names of its own
 pub left_function : (program : ProgramTree) (callee : Callee) (f : FunctionTree) (args : List ℤ) (s inside left after : State) (names : Names) (ran : Result ⊤ Early) (gives : Result ℤ Early)

@@ -15,9 +15,8 @@ use crate::frame::Frame;
 use kern_calls::builtin_named;
 use kern_names::{Functions, Scope, names_of};
 use kern_syntax::{Argument, Function};
-use meaning_state::{Early, Reason, State};
-use meaning_steps::{finished, initial_values, perform_builtin};
-use rtio_types::Exc;
+use meaning_state::{Early, State};
+use meaning_steps::{enter_call, finished, initial_values, perform_builtin};
 use std::alloc::Global;
 
 /// A call by name, with its numbers: of the language's own function, or else of one of the program.
@@ -39,8 +38,7 @@ pub fn perform_call(
     }
 }
 
-// A call of the function of a name, if there is one, which takes a unit. Where no further function may become active it
-// raises.
+// A call of the function of a name, if there is one.
 #[cycle(runs)]
 fn run_named(
     alloc: Global,
@@ -51,13 +49,10 @@ fn run_named(
 ) -> Result<i64, Early>
     ensures { Does result state.new (calls_in frame.now name.now numbers.now state.old) }
 {
-    state.take_unit()?;
+    let room = enter_call(state, frame.room)?;
     let functions = &frame.scope.functions;
-    if frame.room == 0 {
-        return Err(Early::Ended(Reason::Raised(Exc::StackOverflow)));
-    }
     match functions.named(name) {
-        Some(function) => run_function(alloc, functions, frame.room - 1, state, function, numbers),
+        Some(function) => run_function(alloc, functions, room, state, function, numbers),
         None => Ok(0),
     }
 }

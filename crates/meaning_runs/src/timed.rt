@@ -10,7 +10,7 @@ use crate::blocks::{run_block, run_statement};
 use crate::frame::Frame;
 use kern_syntax::{Block, Handler};
 use meaning_state::{Early, Reason, State};
-use meaning_steps::{name_of_exception, save};
+use meaning_steps::{end_recording, handler_of};
 use rtio_types::{Exc, Name};
 use std::alloc::Global;
 
@@ -49,13 +49,8 @@ pub fn run_recorded(
     ensures { Does result state.new (recorded name (block (scope_in frame.now) (calls_in frame.now) (block_of body.now)) state.old) }
 {
     let before = state.open_recording(alloc);
-    match run_block(alloc, frame, state, body) {
-        Ok(()) => save(alloc, state, name, before),
-        Err(end) => {
-            state.close_recording(before);
-            Err(end)
-        }
-    }
+    let ran = run_block(alloc, frame, state, body);
+    end_recording(alloc, state, name, before, ran)
 }
 
 /// The first branch of a `try` with the exception's name, or else the exception goes further.
@@ -70,10 +65,8 @@ pub fn handle(
     requires { AreRunnableHandlers (handlers_of handlers.now) }
     ensures { Does result state.new (handler (scope_in frame.now) (calls_in frame.now) (handlers_of handlers.now) exception state.old) }
 {
-    for branch in handlers.iter() {
-        if branch.exception.bytes() == name_of_exception(exception) {
-            return run_block(alloc, frame, state, &branch.body);
-        }
+    match handler_of(handlers, exception) {
+        Some(body) => run_block(alloc, frame, state, body),
+        None => Err(Early::Ended(Reason::Raised(exception))),
     }
-    Err(Early::Ended(Reason::Raised(exception)))
 }

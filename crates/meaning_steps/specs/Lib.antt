@@ -1,4 +1,5 @@
 pub mod Entering
+pub mod Handling
 pub mod Runnable
 pub mod RunnableFacts
 pub mod RunnableStatements

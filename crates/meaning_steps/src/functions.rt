@@ -1,4 +1,4 @@
-// How a function begins and ends: the values of its names, and what it gives.
+// How a function begins and ends: its call, the values of its names, and what it gives.
 
 ghost use Rattle.std.specs.Prelude.{◌≡◌, IfOk};
 ghost use Rattle.meaning_state.specs.Values.{value_held};
@@ -8,7 +8,8 @@ ghost use Rattle.timeline_sem.specs.Programs.{initial_value, initial_values};
 use crate::assigning::repeated;
 use kern_calls::ValueType;
 use kern_names::{KnownName, Names};
-use meaning_state::{Early, Held, Reason, Variable};
+use meaning_state::{Early, Held, Reason, State, Variable};
+use rtio_types::Exc;
 use std::alloc::{AllocError, Global};
 
 // The value that a name starts with: 0, False or an array of 0. The only error is want of memory.
@@ -72,9 +73,23 @@ pub fn initial_values(
     Ok(values)
 }
 
+ghost use Rattle.meaning_state.specs.Does.{Does};
+ghost use Rattle.meaning_steps.specs.Entering.{enter_call};
+
+/// The beginning of a call, where so many further functions may become active. It takes a unit, and gives how many may
+/// become active beside the function that it enters. Where none may it raises `StackOverflow`.
+pub fn enter_call(state: &mut State<'_>, room: u32) -> Result<u32, Early>
+    ensures { Does result state.new (enter_call room state.old) }
+{
+    state.take_unit()?;
+    if room == 0 {
+        return Err(Early::Ended(Reason::Raised(Exc::StackOverflow)));
+    }
+    Ok(room - 1)
+}
+
 ghost use Rattle.std.specs.Prelude.{⊤, List, ℕ};
 ghost use Rattle.rtio_types.specs.declared.request.Value.{Value};
-ghost use Rattle.meaning_state.specs.Does.{Does};
 ghost use Rattle.timeline_sem.specs.Actions.{Completion, State as Meant};
 ghost use Rattle.timeline_sem.specs.Programs.{leave_function};
 

@@ -1,14 +1,12 @@
-// Turns of loops, and exceptions by their names.
+// Turns of loops.
 
-ghost use Rattle.std.specs.Prelude.{◌≡◌};
 ghost use Rattle.meaning_steps.specs.Turns.{GoesOn};
 ghost use Rattle.meaning_state.specs.Does.{Does};
 ghost use Rattle.std.specs.Prelude.{⊤};
 ghost use Rattle.timeline_sem.specs.Actions.{Action, Completion, State as Meant};
-ghost use Rattle.timeline_sem.specs.Statements.{after_turn, name_of_exception};
+ghost use Rattle.timeline_sem.specs.Statements.{after_turn};
 
 use meaning_state::{Early, Reason};
-use rtio_types::Exc;
 
 /// What the end of a loop's body means for the loop: whether it goes on. A `break` ends it, a `continue` goes on, and
 /// anything else ends it early.
@@ -20,19 +18,5 @@ pub fn settled(ran: Result<(), Early>) -> Result<bool, Early>
         Err(Early::Ended(Reason::Continue)) => Ok(true),
         Err(Early::Ended(Reason::Break)) => Ok(false),
         Err(end) => Err(end),
-    }
-}
-
-/// The name of an exception.
-pub fn name_of_exception(exception: Exc) -> &'static [u8]
-    ensures { result.now ≡ name_of_exception exception }
-{
-    match exception {
-        Exc::RTIOUnderflow => b"RTIOUnderflow",
-        Exc::RTIOOverflow => b"RTIOOverflow",
-        Exc::DMAError => b"DMAError",
-        Exc::ZeroDivisionError => b"ZeroDivisionError",
-        Exc::IndexError => b"IndexError",
-        Exc::StackOverflow => b"StackOverflow",
     }
 }

@@ -7,23 +7,25 @@ use Rattle.std.proofs.lemmas.Result.{err_from_is_err_and}
 use Rattle.kern_syntax.specs.declared.expression.Argument.TheFolds.{the_lemmas}
 use Rattle.kern_syntax.specs.declared.statement.StmtKind.TheFolds as Statements
 use Rattle.kern_syntax.specs.Tree.{FunctionTree, binary, no_more}
-use Rattle.kern_syntax.specs.TreeOf.{expression_of, arguments_of, argument_of, block_of, function_of}
+use Rattle.kern_syntax.specs.TreeOf.{expression_of, arguments_of, argument_of, block_of, function_of, handlers_of}
 use Rattle.kern_calls.specs.Types.{function_named, names_of, type_of}
 use Rattle.kern_names.specs.ScopeOf.{program_of}
 use Rattle.meaning_runs.specs.Frames.{calls_in, scope_in}
 use Rattle.meaning_state.specs.Does.{Does, EndsAs}
 use Rattle.timeline_sem.specs.Actions.{normal, give, ◌>>=◌}
 use Rattle.timeline_sem.specs.Expressions.{arguments, expression, operate}
+use Rattle.meaning_steps.specs.Handling.{handler_of}
 use Rattle.meaning_steps.specs.Runnable.{AreRunnable, first_argument}
 use Rattle.meaning_runs.proofs.Arguments.{argument_read, argument_ended, runnable_rest, smaller_rest}
-use Rattle.meaning_runs.proofs.Sizes.{arguments_size, block_size, program_size}
-use Rattle.meaning_runs.proofs.Entered.{found_runs, found_smaller, left_function, room_falls}
+use Rattle.meaning_runs.proofs.Sizes.{arguments_size, block_size, handlers_size, program_size}
+use Rattle.meaning_runs.proofs.Entered.{call_entered, found_runs, found_smaller, left_function, room_falls, room_left}
+use Rattle.meaning_runs.proofs.Handled.{handled, handled_runs, handled_smaller, unhandled}
 use Rattle.meaning_runs.proofs.Items.{drop_item}
-use Rattle.meaning_runs.proofs.Operated.{binary_then}
+use Rattle.meaning_runs.proofs.Operated.{binary_then, sum_then}
 use Rattle.rtio_types.specs.Integers.{is_true}
 use Rattle.meaning_steps.specs.Turns.{GoesOn, set_then}
 use Rattle.timeline_sem.specs.Statements.{block, for_turns, turn, while_loop, while_turns}
-use Rattle.timeline_sem.specs.Programs.{function_call, initial_values}
+use Rattle.timeline_sem.specs.Programs.{function_body, function_call, initial_values, optional_body}
 use Rattle.meaning_runs.proofs.Turning.{for_here, next_fits, while_here}
 use Rattle.meaning_runs.proofs.+runs.Goals as goal
 
@@ -42,9 +44,6 @@ simple::evaluate_each-evaluate-requires t c = grind (Statements.the_lemmas, arit
 
 pub simple::evaluate_each-returns : goal.simple::evaluate_each-returns
 simple::evaluate_each-returns t c = grind (Statements.the_lemmas, arith, common_steps)
-
-pub timed::handle-returns : goal.timed::handle-returns
-timed::handle-returns t c = grind (Statements.the_lemmas, arith, common_steps)
 
 pub timed::run_parallel-run_statement-requires : goal.timed::run_parallel-run_statement-requires
 timed::run_parallel-run_statement-requires t c = grind (Statements.the_lemmas, arith, common_steps)
@@ -109,6 +108,16 @@ expressions::evaluate-returns-in_ok-b-in-Binary t c =
     let by_type = subst (λ t. Does r last (operate arm.operator t (to_z w64 (of_z w64 a)) (to_z w64 (of_z w64 b)) last)) typed (c.operate.ensures last) in
     let done : Does r last (operate arm.operator (type_of scope (binary arm.operator left right)) a b last) = subst₂ (λ a b. Does r last (operate arm.operator (type_of scope (binary arm.operator left right)) a b last)) (to_z-of_z w64 a fits_a) (to_z-of_z w64 b fits_b) by_type in
     subst (λ e. Does r last (expression scope callee e s)) (sym tree) (binary_then scope callee arm.operator left right s middle last a b r first second done)
+
+pub simple::augment_element-returns : goal.simple::augment_element-returns
+simple::augment_element-returns t c =
+    let place = c.in_ok-place.place in
+    let held = c.in_ok-held.held in
+    let added = c.in_ok-added.added in
+    let fits_place : FitsSigned w64 place = search rules in
+    let fits_held : FitsSigned w64 held = search rules in
+    let fits_added : FitsSigned w64 added = search rules in
+    sum_then (scope_in c.args.frame.now) (calls_in c.args.frame.now) c.args.x.now (expression_of c.args.index.now) c.args.operator (expression_of c.args.e.now) c.args.state.now c.evaluate.new.state c.evaluate-2.new.state c.set_sum.new.state place _ held _ added _ c.set_sum.result (to_z-of_z w64 place fits_place) (to_z-of_z w64 held fits_held) (to_z-of_z w64 added fits_added) c.in_ok-place.ensures c.in_ok-held.ensures c.in_ok-added.ensures c.set_sum.ensures
 
 pub loops::run_while-loop-left-preserved : goal.loops::run_while-loop-left-preserved
 loops::run_while-loop-left-preserved t c =
@@ -225,11 +234,47 @@ pub functions::run_named-run_function-requires : goal.functions::run_named-run_f
 functions::run_named-run_function-requires t c =
     let program = program_of c.args.frame.now.scope.functions in
     let f = function_of c.in-Some.function.now in
+    let left = c.in_ok-room.room in
     let found : function_named program c.args.name.now ≡ Some f = sym c.in-Some.ensures in
     let test : FunctionTree → Bool = λ f. bytes_eq c.args.name.now f.name in
     let small = found_smaller program test f found in
-    let falls = room_falls c.args.frame.now.room (program_size program) (block_size f.body) c.if-frame-eq0.false small in
-    (subst (λ t. (c.args.frame.now.room - 1) * program_size program + (block_size f.body + 1) < t) c.decreases falls, (c.args.frame.now.runnable, found_runs program test f found c.args.frame.now.runnable))
+    let less = room_left c.args.frame.now.room left c.args.state.now c.enter_call.new.state c.in_ok-room.ensures in
+    let falls = room_falls c.args.frame.now.room left (program_size program) (block_size f.body) less small in
+    (subst (λ t. left * program_size program + (block_size f.body + 1) < t) c.decreases falls, (c.args.frame.now.runnable, found_runs program test f found c.args.frame.now.runnable))
+
+pub functions::run_named-returns-in-Some : goal.functions::run_named-returns-in-Some
+functions::run_named-returns-in-Some t c =
+    let program = program_of c.args.frame.now.scope.functions in
+    let name = c.args.name.now in
+    let args = c.args.numbers.now in
+    let s = c.args.state.now in
+    let after = c.enter_call.new.state in
+    let room = c.args.frame.now.room in
+    let left = c.in_ok-room.room in
+    let f = function_of c.in-Some.function.now in
+    let found : function_named program name ≡ Some f = sym c.in-Some.ensures in
+    let whole : function_call program room name args s ≡ function_body program (function_call program left) f args after = call_entered program name args s after room left c.in_ok-room.ensures ∙ ap (λ f. optional_body program (function_call program left) f args after) found in
+    subst (Does c.run_function.result c.run_function.new.state) (sym whole) c.run_function.ensures
+
+pub timed::handle-run_block-requires : goal.timed::handle-run_block-requires
+timed::handle-run_block-requires t c =
+    let handlers = handlers_of c.args.handlers.now in
+    let body = block_of c.in-Some.body.now in
+    let found : handler_of handlers c.args.exception ≡ Some body = sym c.in-Some.ensures in
+    let small = handled_smaller handlers c.args.exception body found in
+    let room = c.args.frame.now.room * program_size (program_of c.args.frame.now.scope.functions) in
+    let falls : room + block_size body < room + (handlers_size handlers + 1) = omega (arith, small) in
+    (subst (λ t. room + block_size body < t) c.decreases falls, handled_runs handlers c.args.exception body found c.requires)
+
+pub timed::handle-returns-in-Some : goal.timed::handle-returns-in-Some
+timed::handle-returns-in-Some t c =
+    let scope = scope_in c.args.frame.now in
+    let callee = calls_in c.args.frame.now in
+    let found = sym c.in-Some.ensures in
+    subst (Does c.run_block.result c.run_block.new.state) (sym (handled scope callee c.args.exception c.args.state.now (handlers_of c.args.handlers.now) (block_of c.in-Some.body.now) found)) c.run_block.ensures
+
+pub timed::handle-returns-in-None : goal.timed::handle-returns-in-None
+timed::handle-returns-in-None t c = unhandled (scope_in c.args.frame.now) (calls_in c.args.frame.now) c.args.exception c.args.state.now (handlers_of c.args.handlers.now) (sym c.in-None.ensures)
 
 pub loops::run_while-returns-in_err-run_turn : goal.loops::run_while-returns-in_err-run_turn
 loops::run_while-returns-in_err-run_turn t c =

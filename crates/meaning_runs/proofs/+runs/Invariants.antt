@@ -5,10 +5,10 @@ use Rattle.kern_syntax.specs.TreeOf.{argument_of, arguments_of, assign_to, augme
 use Rattle.kern_names.specs.ScopeOf.{program_of}
 use Rattle.meaning_runs.specs.Frames.{calls_in, scope_in}
 use Rattle.meaning_steps.specs.Runnable.{AreRunnable}
-use Rattle.meaning_steps.specs.RunnableStatements.{AreRunnableHandlers, EachRunnable, IsRunnableBlock, IsRunnableOtherwise}
+use Rattle.meaning_steps.specs.RunnableStatements.{EachRunnable, IsRunnableBlock, IsRunnableOtherwise}
 use Rattle.timeline_sem.specs.Actions.{give, ◌>>=◌}
 use Rattle.timeline_sem.specs.Expressions.{arguments, expression}
-use Rattle.timeline_sem.specs.Statements.{block, for_turns, handler, otherwise, parallel_block, statement, values, while_loop, while_turns}
+use Rattle.timeline_sem.specs.Statements.{block, for_turns, otherwise, parallel_block, statement, values, while_loop, while_turns}
 use Rattle.meaning_runs.proofs.Sizes.{arguments_size, block_size, expression_size, expressions_size, handlers_size, otherwise_size, optional_size, program_size, statement_size}
 use Rattle.meaning_runs.proofs.+runs.Given as goal
 
@@ -125,14 +125,6 @@ invariant-timed::run_parallel-loop-statement l =
       left : parallel_block (scope_in l.fn.frame) (calls_in l.fn.frame) (block_of l.fn.body) l.start l.start l.initial.state ≡ parallel_block (scope_in l.fn.frame) (calls_in l.fn.frame) (lines_of (drop l.statement-index l.statement-items)) l.start l.greatest l.state;
       runnable : IsRunnableBlock (lines_of (drop l.statement-index l.statement-items));
       small : block_size (lines_of (drop l.statement-index l.statement-items)) ≤ block_size (block_of l.fn.body);
-    }
-
-abbrev pub invariant-timed::handle-loop-branch : goal.invariant-timed::handle-loop-branch
-invariant-timed::handle-loop-branch l =
-    record {
-      left : handler (scope_in l.fn.frame) (calls_in l.fn.frame) (handlers_of l.fn.handlers) l.fn.exception l.initial.state ≡ handler (scope_in l.fn.frame) (calls_in l.fn.frame) (handlers_of (drop l.branch-index l.fn.handlers)) l.fn.exception l.state;
-      runnable : AreRunnableHandlers (handlers_of (drop l.branch-index l.fn.handlers));
-      small : handlers_size (handlers_of (drop l.branch-index l.fn.handlers)) ≤ handlers_size (handlers_of l.fn.handlers);
     }
 
 abbrev pub invariant-loops::run_while-loop-left : goal.invariant-loops::run_while-loop-left
