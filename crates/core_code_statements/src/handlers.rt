@@ -97,14 +97,34 @@ fn put_handler(
     let kept = u32::from(inside.enclosing.tries);
     let size = block_size(setting, tries, kept, &handler.body);
     let next = lines.len() as u32 + 5 + size + 1;
+    put_handler_begin(lines, inside, handler.exception.bytes(), next)?;
+    put_block(lines, setting, inside, &handler.body)?;
+    put(lines, inside.mark, Instr::Jump(end))
+}
+
+ghost use Rattle.std.specs.Prelude.{[], ◌∷◌};
+ghost use Rattle.core_isa.specs.declared.instr.Instr.TheVariants as I;
+ghost use Rattle.code_forms.specs.Lines.{raised, straight};
+ghost use Rattle.code_forms.specs.StatementCode.{code_of_name};
+
+// An exception of another name goes on at the next handler.
+fn put_handler_begin(
+    lines: &mut Vec<CodeLine>,
+    inside: Inside,
+    name: &[u8],
+    next: u32,
+) -> Result<(), AllocError>
+    requires { HasSpace inside.mark inside.free }
+    ensures code { OnOk result (lines.new.items ≡ lines.old.items
+        ++ straight (raised 1 inside.mark) (I.Dup ∷ I.Const (code_of_name name.now) ∷ I.Eq ∷ I.JumpZero next ∷ I.Pop ∷ [])) }
+    ensures longer { OnOk result (length lines.new.items ≡ length lines.old.items + 5) }
+{
     let begins = [
         Instr::Dup,
-        Instr::Const(exception_code(handler.exception.bytes())),
+        Instr::Const(exception_code(name)),
         Instr::Eq,
         Instr::JumpZero(next),
         Instr::Pop,
     ];
-    put_all(lines, raised(inside.mark, 1), &begins)?;
-    put_block(lines, setting, inside, &handler.body)?;
-    put(lines, inside.mark, Instr::Jump(end))
+    put_all(lines, raised(inside.mark, 1), &begins)
 }

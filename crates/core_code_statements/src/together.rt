@@ -34,18 +34,11 @@ pub fn put_parallel(
     ensures longer { OnOk result (length lines.new.items ≡ length lines.old.items
         + statement_size (setting_of setting.now) inside.mark.tries inside.enclosing.tries (parallel (block_of body.now))) }
 {
-    let (start, greatest) = (inside.free, inside.free + 1);
-    let begins = [
-        Instr::Now,
-        Instr::Dup,
-        Instr::Store(start),
-        Instr::Store(greatest),
-    ];
     let together = Inside {
         free: inside.free + 2,
         ..inside
     };
-    put_all(lines, inside.mark, &begins)?;
+    put_begin(lines, inside)?;
     put_together(lines, setting, together, body)
 }
 
@@ -72,8 +65,50 @@ fn put_together(
     ensures longer { OnOk result (length lines.new.items ≡ length lines.old.items
         + parallel_size (setting_of setting.now) inside.mark.tries inside.enclosing.tries (block_of body.now)) }
 {
+    for (number, statement) in body.statements.iter().enumerate() {
+        if number > 0 {
+            put_next_begin(lines, inside)?;
+        }
+        put_statement(lines, setting, inside, &statement.kind)?;
+    }
+    if body.statements.is_empty() {
+        return Ok(());
+    }
+    put_end(lines, inside)
+}
+
+ghost use Rattle.std.specs.Prelude.{[], ◌∷◌};
+ghost use Rattle.core_isa.specs.declared.instr.Instr.TheVariants as I;
+ghost use Rattle.code_forms.specs.Lines.{straight};
+
+// The cursor is kept, as the start and as the greatest end so far.
+fn put_begin(lines: &mut Vec<CodeLine>, inside: Inside) -> Result<(), AllocError>
+    requires { HasSpace inside.mark inside.free }
+    ensures code { OnOk result (lines.new.items ≡ lines.old.items
+        ++ straight inside.mark (I.Now ∷ I.Dup ∷ I.Store inside.free ∷ I.Store (inside.free + 1) ∷ [])) }
+    ensures longer { OnOk result (length lines.new.items ≡ length lines.old.items + 4) }
+{
+    let (start, greatest) = (inside.free, inside.free + 1);
+    let begins = [
+        Instr::Now,
+        Instr::Dup,
+        Instr::Store(start),
+        Instr::Store(greatest),
+    ];
+    put_all(lines, inside.mark, &begins)
+}
+
+ghost use Rattle.code_forms.specs.StatementCode.{block_ends, next_begins};
+
+// A statement has ended, whose end counts where it is the greatest, and the next one begins at the start.
+fn put_next_begin(lines: &mut Vec<CodeLine>, inside: Inside) -> Result<(), AllocError>
+    requires space { HasSpace inside.mark inside.free }
+    requires slots { 2 ≤ inside.free }
+    ensures code { OnOk result (lines.new.items ≡ lines.old.items ++ straight inside.mark (next_begins (inside_of inside))) }
+    ensures longer { OnOk result (length lines.new.items ≡ length lines.old.items + 6) }
+{
     let (start, greatest) = (inside.free - 2, inside.free - 1);
-    let next_begins = [
+    let begins = [
         Instr::Load(greatest),
         Instr::Now,
         Instr::Max,
@@ -81,15 +116,17 @@ fn put_together(
         Instr::Load(start),
         Instr::At,
     ];
-    let block_ends = [Instr::Load(greatest), Instr::Now, Instr::Max, Instr::At];
-    for (number, statement) in body.statements.iter().enumerate() {
-        if number > 0 {
-            put_all(lines, inside.mark, &next_begins)?;
-        }
-        put_statement(lines, setting, inside, &statement.kind)?;
-    }
-    if body.statements.is_empty() {
-        return Ok(());
-    }
-    put_all(lines, inside.mark, &block_ends)
+    put_all(lines, inside.mark, &begins)
+}
+
+// The last statement has ended, and the block ends at the greatest end.
+fn put_end(lines: &mut Vec<CodeLine>, inside: Inside) -> Result<(), AllocError>
+    requires space { HasSpace inside.mark inside.free }
+    requires slots { 2 ≤ inside.free }
+    ensures code { OnOk result (lines.new.items ≡ lines.old.items ++ straight inside.mark (block_ends (inside_of inside))) }
+    ensures longer { OnOk result (length lines.new.items ≡ length lines.old.items + 4) }
+{
+    let greatest = inside.free - 1;
+    let ends = [Instr::Load(greatest), Instr::Now, Instr::Max, Instr::At];
+    put_all(lines, inside.mark, &ends)
 }
