@@ -15,16 +15,14 @@ ghost use Rattle.code_ranges.specs.Ready.{AreReady, IsReady};
 ghost use Rattle.core_code_names.specs.SettingOf.{setting_of};
 ghost use Rattle.core_code_expressions.specs.ReadyCalls.{IsReadyCall, IsReadyMethod};
 
-use crate::pieces::{
-    load_instr, negated, put_and_end, put_and_test, put_filler, put_or_test, wrapped_type,
-};
-use crate::sizes::expression_size;
+use crate::pieces::{load_instr, put_and_end, put_and_test, put_filler, put_or_test};
 use core_code_names::Setting;
 use core_code_operations::lines::{put, raised};
 use core_code_operations::{
     Callee, callee_of, method_has_value, put_comparison, put_method_instrs, put_not, put_operator,
     put_unary, text_in,
 };
+use core_code_sizes::{expression_size, negated, wrapped_type};
 use core_isa::{CodeLine, Instr, Mark};
 use kern_calls::{Operation, ValueType, binary_type, literal_type, method_named, method_type};
 use kern_syntax::{Argument, Expr, Identifier};

@@ -6,8 +6,10 @@ ghost use Rattle.code_forms.specs.Sizes.{return_size, stored_size};
 ghost use Rattle.core_code_names.specs.SettingOf.{setting_of};
 ghost use Rattle.core_code_sizes.specs.Parts.{simple_size};
 
-use core_code_expressions::{effect_size, expression_size, wrapped_size};
+use crate::effects::effect_size;
+use crate::expressions::expression_size;
 use core_code_names::Setting;
+use core_code_operations::wrapped_size;
 use kern_syntax::{Expr, StmtKind, Target};
 
 /// How many instructions the code of a statement without a block has, under so many handlers, of which so many stood before

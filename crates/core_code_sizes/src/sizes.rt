@@ -5,10 +5,12 @@ ghost use Rattle.kern_syntax.specs.TreeOf.{block_of, statement_of};
 ghost use Rattle.code_forms.specs.Sizes.{block_size, statement_size};
 ghost use Rattle.core_code_names.specs.SettingOf.{setting_of};
 
+use crate::conditions::{asked_size, is_turned};
+use crate::expressions::expression_size;
 use crate::simple::simple_size;
 use code_forms::TestKind;
-use core_code_expressions::{asked_size, expression_size, is_turned, loop_size, test_size};
 use core_code_names::Setting;
+use core_code_operations::{loop_size, test_size};
 use kern_syntax::{Block, Elif, Expr, Handler, StmtKind};
 
 /// How many instructions the code of a block has, under so many handlers, of which so many stood before the enclosing loop.

@@ -27,7 +27,7 @@ pub struct Measure {
 }
 
 /// How many instructions the code of an expression has, with its type.
-#[cycle(sizes)]
+#[cycle(expressions)]
 pub fn expression_size(setting: &Setting<'_>, e: &Expr) -> Measure
     requires { expression_size (setting_of setting.now) (expression_of e.now) < 2 ^ 32 }
     ensures size { result.size ≡ expression_size (setting_of setting.now) (expression_of e.now) }
@@ -108,7 +108,7 @@ pub fn expression_size(setting: &Setting<'_>, e: &Expr) -> Measure
 }
 
 /// How many instructions a call by name has, which leaves a value if it has one, and what is called.
-#[cycle(sizes)]
+#[cycle(expressions)]
 pub fn call_size(setting: &Setting<'_>, name: &[u8], arguments: &[Argument]) -> (u32, Callee)
     requires { call_size (setting_of setting.now) name.now (arguments_of arguments.now) < 2 ^ 32 }
     ensures size { result.0 ≡ call_size (setting_of setting.now) name.now (arguments_of arguments.now) }
@@ -124,7 +124,7 @@ pub fn call_size(setting: &Setting<'_>, name: &[u8], arguments: &[Argument]) -> 
 }
 
 /// How many instructions the arguments of a call have.
-#[cycle(sizes)]
+#[cycle(expressions)]
 pub fn arguments_size(setting: &Setting<'_>, arguments: &[Argument]) -> u32
     requires { arguments_size (setting_of setting.now) (arguments_of arguments.now) < 2 ^ 32 }
     ensures { result ≡ arguments_size (setting_of setting.now) (arguments_of arguments.now) }
@@ -136,7 +136,7 @@ pub fn arguments_size(setting: &Setting<'_>, arguments: &[Argument]) -> u32
     size
 }
 
-#[cycle(sizes)]
+#[cycle(expressions)]
 fn argument_size(setting: &Setting<'_>, argument: &Argument) -> u32
     requires { arguments_size (setting_of setting.now) (argument_of argument.now no_more) < 2 ^ 32 }
     ensures { result ≡ arguments_size (setting_of setting.now) (argument_of argument.now no_more) }
