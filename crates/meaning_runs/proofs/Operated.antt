@@ -4,21 +4,26 @@ use Rattle.std.specs.Prelude.{ℤ, ⊤}
 use Rattle.kern_syntax.specs.declared.expression.BinaryOperator.{BinaryOperator}
 use Rattle.kern_syntax.specs.declared.statement.Augment.{Augment}
 use Rattle.kern_syntax.specs.Tree.{Bytes, Expression, binary, augment_element}
+use Rattle.kern_calls.specs.declared.types.ValueType.{ValueType}
 use Rattle.kern_calls.specs.Types.{Scope, type_of}
 use Rattle.meaning_state.specs.declared.early.Early.{Early}
 use Rattle.meaning_state.specs.Does.{Does}
-use Rattle.timeline_sem.specs.Actions.{State, Action, normal, go_on, ◌>>=◌}
+use Rattle.timeline_sem.specs.Actions.{State, Completion, Action, normal, go_on, ◌>>=◌}
 use Rattle.meaning_steps.specs.Turns.{set_sum}
 use Rattle.timeline_sem.specs.Expressions.{Callee, expression, operate, read_element}
 use Rattle.timeline_sem.specs.Statements.{statement}
 
 -- it is what the operator gives
-pub binary_then : (scope : Scope) (callee : Callee) (op : BinaryOperator) (left right : Expression) (s middle last : State) (a b : ℤ) (r : Result ℤ Early) → expression scope callee left s ≡ normal a middle → expression scope callee right middle ≡ normal b last → Does r last (operate op (type_of scope (binary op left right)) a b last) → Does r last (expression scope callee (binary op left right) s)
-binary_then scope callee op left right s middle last a b r first second done =
-    let next : ℤ → Action ℤ = λ a. expression scope callee right >>= (λ b. operate op (type_of scope (binary op left right)) a b) in
-    let whole : expression scope callee (binary op left right) s ≡ operate op (type_of scope (binary op left right)) a b last =
-    ap (λ m. go_on m next) first ∙ ap (λ m. go_on m (λ b. operate op (type_of scope (binary op left right)) a b)) second in
-    subst (Does r last) (sym whole) done
+pub binary_then : (scope : Scope) (callee : Callee) (op : BinaryOperator) (left right whole : Expression) (s middle last : State) (t : ValueType) (a a' b b' : ℤ) (meant : Completion ℤ) → whole ≡ binary op left right → t ≡ type_of scope (binary op left right) → a' ≡ a → b' ≡ b → expression scope callee left s ≡ normal a middle → expression scope callee right middle ≡ normal b last → operate op t a' b' last ≡ meant → expression scope callee whole s ≡ meant
+binary_then scope callee op left right whole s middle last t a a' b b' meant tree typed one two first second done =
+    let operates : (a b : ℤ) → Action ℤ = operate op (type_of scope (binary op left right)) in
+    let next : ℤ → Action ℤ = λ a. expression scope callee right >>= (λ b. operates a b) in
+    let same : operate op t a' b' last ≡ operates a b last = λ i. operate op (typed i) (one i) (two i) last in
+    ap (λ e. expression scope callee e s) tree
+    ∙ ap (λ m. go_on m next) first
+    ∙ ap (λ m. go_on m (λ b. operates a b)) second
+    ∙ sym same
+    ∙ done
 
 -- the element becomes what was read from it and what is added
 pub sum_then : (scope : Scope) (callee : Callee) (x : Bytes) (i : Expression) (op : Augment) (e : Expression) (s one two last : State) (place place' held held' added added' : ℤ) (r : Result ⊤ Early) → place' ≡ place → held' ≡ held → added' ≡ added → expression scope callee i s ≡ normal place one → read_element x place' one ≡ normal held one → expression scope callee e one ≡ normal added two → Does r last (set_sum x place' op held' added' two) → Does r last (statement scope callee (augment_element x i op e) s)

@@ -34,7 +34,7 @@ pub fn evaluate(
         Expr::Variable(x) => Ok(state.number(x.bytes())),
         Expr::Index(array, index) => {
             let place = evaluate(alloc, frame, state, index)?;
-            state.element(array.bytes(), place)
+            Ok(state.element(array.bytes(), place)?)
         }
         Expr::Group(inner) => evaluate(alloc, frame, state, inner),
         Expr::Unary(operator, operand) => {
@@ -44,7 +44,7 @@ pub fn evaluate(
         Expr::Binary(operator, left, right) => {
             let a = evaluate(alloc, frame, state, left)?;
             let b = evaluate(alloc, frame, state, right)?;
-            operate(*operator, type_of(&frame.scope, e), a, b)
+            Ok(operate(*operator, type_of(&frame.scope, e), a, b)?)
         }
         Expr::Compare(comparison, left, right) => {
             let a = evaluate(alloc, frame, state, left)?;

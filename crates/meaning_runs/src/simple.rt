@@ -98,7 +98,8 @@ fn augment_name(
 {
     let held = state.number(x);
     let added = evaluate(alloc, frame, state, e)?;
-    hold_sum(&frame.scope, state, x, operator, held, added)
+    hold_sum(&frame.scope, state, x, operator, held, added)?;
+    Ok(())
 }
 
 #[cycle(runs)]

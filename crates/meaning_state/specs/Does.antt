@@ -32,3 +32,8 @@ Does (Err end) left meant = EndsAs end left meant
 abbrev pub DoesItems : {A : Type 0} → Result (Vec A Global) Early → (left : State) → (meant : Completion (List A)) → Type 0
 DoesItems (Ok v) left meant = meant ≡ normal v.items left
 DoesItems (Err end) left meant = EndsAs end left meant
+
+-- so does a part that takes no memory, and always
+abbrev pub DoesAlways : {A : Type 0} → Result A Reason → (left : State) → (meant : Completion A) → Type 0
+DoesAlways (Ok a) left meant = meant ≡ normal a left
+DoesAlways (Err reason) left meant = meant ≡ early (reason_of reason) left

@@ -3,7 +3,7 @@
 use rtio_types::Exc;
 use std::alloc::{AllocError, AllocFailed};
 
-/// Why a part of a kernel ends early.
+/// Why a part of a kernel ends early: the only error of a part that takes no memory.
 #[derive(Clone, Copy, Debug, PartialEq, Eq)]
 pub enum Reason {
     /// A `break` of the loop around it.
@@ -20,13 +20,24 @@ pub enum Reason {
     Unanswered,
 }
 
-/// How the run of a part ends before its end.
+/// How the run of a part that takes memory ends before its end.
 #[derive(Clone, Copy, Debug, PartialEq, Eq)]
 pub enum Early {
     /// The part ends so.
     Ended(Reason),
     /// Want of memory.
     Memory,
+}
+
+impl From<Reason> for Early {
+    ghost use Rattle.std.specs.Prelude.{◌≡◌};
+    ghost use Rattle.meaning_state.specs.declared.early.Early.TheVariants.{Ended};
+
+    ghost from_gives = { λ reason end. end ≡ Ended reason };
+
+    fn from(reason: Reason) -> Early {
+        Early::Ended(reason)
+    }
 }
 
 impl From<AllocError> for Early {

@@ -48,7 +48,7 @@ impl Model for Recorder {
 
 impl<'a> State<'a> {
     ghost use Rattle.std.specs.Prelude.{◌≡◌, [], IfOk, IfErr, Some, is_some, option_map, pos};
-    ghost use Rattle.meaning_state.specs.Does.{Does, EndsAs};
+    ghost use Rattle.meaning_state.specs.Does.{Does, DoesAlways, EndsAs};
     ghost use Rattle.meaning_state.specs.Values.{value_held};
     ghost use Rattle.timeline_sem.specs.Actions.{ask, normal, take_unit};
     ghost use Rattle.timeline_sem.specs.Expressions.{list_in_value, number_in_value, read_element, value_of, with_value, write_element};
@@ -84,11 +84,11 @@ impl<'a> State<'a> {
     }
 
     /// Takes a unit, or ends where none is left.
-    pub fn take_unit(&mut self) -> Result<(), Early>
-        ensures { Does result self.new (take_unit self.old) }
+    pub fn take_unit(&mut self) -> Result<(), Reason>
+        ensures { DoesAlways result self.new (take_unit self.old) }
     {
         if self.units == 0 {
-            return Err(Early::Ended(Reason::Budget));
+            return Err(Reason::Budget);
         }
         self.units -= 1;
         Ok(())
@@ -191,12 +191,12 @@ impl<'a> State<'a> {
     }
 
     /// An element of an array. An index outside it raises.
-    pub fn element(&self, name: &[u8], index: i64) -> Result<i64, Early>
-        ensures { Does result self.now (read_element name.now index self.now) }
+    pub fn element(&self, name: &[u8], index: i64) -> Result<i64, Reason>
+        ensures { DoesAlways result self.now (read_element name.now index self.now) }
     {
         match item(numbers_of(&self.values, name), index) {
             Some(number) => Ok(number),
-            None => Err(Early::Ended(Reason::Raised(Exc::IndexError))),
+            None => Err(Reason::Raised(Exc::IndexError)),
         }
     }
 

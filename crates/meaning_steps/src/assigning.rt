@@ -1,14 +1,14 @@
 // Sums that are assigned, and lists of numbers.
 
 ghost use Rattle.std.specs.Prelude.{◌≡◌};
-ghost use Rattle.meaning_state.specs.Does.{Does};
+ghost use Rattle.meaning_state.specs.Does.{Does, DoesAlways};
 ghost use Rattle.timeline_sem.specs.Statements.{operator_of};
 
 use crate::operating::operate;
 use kern_calls::ValueType;
 use kern_names::{Scope, type_of_name};
 use kern_syntax::{Augment, BinaryOperator};
-use meaning_state::{Early, Held, State};
+use meaning_state::{Early, Held, Reason, State};
 use std::alloc::{AllocError, Global};
 
 // The operator of an augmented assignment.
@@ -50,8 +50,8 @@ pub fn hold_sum(
     operator: Augment,
     held: i64,
     added: i64,
-) -> Result<(), Early>
-    ensures { Does result state.new (hold_sum (scope_of scope.now) x.now operator held added state.old) }
+) -> Result<(), Reason>
+    ensures { DoesAlways result state.new (hold_sum (scope_of scope.now) x.now operator held added state.old) }
 {
     let kind = type_of_name(scope, x);
     let new = operate(operator_of(operator), kind, held, added)?;

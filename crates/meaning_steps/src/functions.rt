@@ -73,22 +73,23 @@ pub fn initial_values(
     Ok(values)
 }
 
-ghost use Rattle.meaning_state.specs.Does.{Does};
+ghost use Rattle.meaning_state.specs.Does.{DoesAlways};
 ghost use Rattle.meaning_steps.specs.Entering.{enter_call};
 
 /// The beginning of a call, where so many further functions may become active. It takes a unit, and gives how many may
 /// become active beside the function that it enters. Where none may it raises `StackOverflow`.
-pub fn enter_call(state: &mut State<'_>, room: u32) -> Result<u32, Early>
-    ensures { Does result state.new (enter_call room state.old) }
+pub fn enter_call(state: &mut State<'_>, room: u32) -> Result<u32, Reason>
+    ensures { DoesAlways result state.new (enter_call room state.old) }
 {
     state.take_unit()?;
     if room == 0 {
-        return Err(Early::Ended(Reason::Raised(Exc::StackOverflow)));
+        return Err(Reason::Raised(Exc::StackOverflow));
     }
     Ok(room - 1)
 }
 
 ghost use Rattle.std.specs.Prelude.{⊤, List, ℕ};
+ghost use Rattle.meaning_state.specs.Does.{Does};
 ghost use Rattle.rtio_types.specs.declared.request.Value.{Value};
 ghost use Rattle.timeline_sem.specs.Actions.{Completion, State as Meant};
 ghost use Rattle.timeline_sem.specs.Programs.{leave_function};

@@ -1,4 +1,4 @@
-use Rattle.std.proofs.Common.{rules, ◌≡◌, ◌≤◌, ◌<◌, ◌*◌, Some, ◌+◌, ◌++◌, drop, ap, subst, subst₂, sym, ◌∙◌, FitsSigned, to_z, of_z, ◌-◌, suc, true, false, Ok, arith}
+use Rattle.std.proofs.Common.{rules, ◌≡◌, ◌≤◌, ◌<◌, ◌*◌, Some, ◌+◌, ◌++◌, drop, ap, subst, sym, ◌∙◌, FitsSigned, to_z, of_z, ◌-◌, suc, true, false, Ok, arith}
 use Rattle.std.specs.Prelude.{Bool, bytes_eq, option_to_list, pos, ◌+ℤ◌, ◌<ℤ◌}
 use Rattle.std.specs.Int.{w64, int_gap}
 use Rattle.std.proofs.lemmas.Grind.{common_steps}
@@ -11,9 +11,9 @@ use Rattle.kern_syntax.specs.TreeOf.{expression_of, arguments_of, argument_of, b
 use Rattle.kern_calls.specs.Types.{function_named, names_of, type_of}
 use Rattle.kern_names.specs.ScopeOf.{program_of}
 use Rattle.meaning_runs.specs.Frames.{calls_in, scope_in}
-use Rattle.meaning_state.specs.Does.{Does, EndsAs}
-use Rattle.timeline_sem.specs.Actions.{normal, give, ◌>>=◌}
-use Rattle.timeline_sem.specs.Expressions.{arguments, expression, operate}
+use Rattle.meaning_state.specs.Does.{Does, EndsAs, reason_of}
+use Rattle.timeline_sem.specs.Actions.{normal, early, give, ◌>>=◌}
+use Rattle.timeline_sem.specs.Expressions.{arguments, expression}
 use Rattle.meaning_steps.specs.Handling.{handler_of}
 use Rattle.meaning_steps.specs.Runnable.{AreRunnable, first_argument}
 use Rattle.meaning_runs.proofs.Arguments.{argument_read, argument_ended, runnable_rest, smaller_rest}
@@ -86,8 +86,8 @@ expressions::evaluate_all-loop-argument-preserved t c =
       small = smaller_rest item rest (subst (λ given. arguments_size given ≤ arguments_size (arguments_of c.args.given.now)) next c.loop-argument.invariant.small);
     }
 
-pub expressions::evaluate-returns-in_ok-b-in-Binary : goal.expressions::evaluate-returns-in_ok-b-in-Binary
-expressions::evaluate-returns-in_ok-b-in-Binary t c =
+pub expressions::evaluate-returns-in_ok-operate-in-Binary : goal.expressions::evaluate-returns-in_ok-operate-in-Binary
+expressions::evaluate-returns-in_ok-operate-in-Binary t c =
     let arm = c.in-Binary in
     let scope = scope_in c.args.frame.now in
     let callee = calls_in c.args.frame.now in
@@ -96,18 +96,41 @@ expressions::evaluate-returns-in_ok-b-in-Binary t c =
     let last = c.evaluate-in-Binary-2.new.state in
     let a = c.in_ok-a-in-Binary.a in
     let b = c.in_ok-b-in-Binary.b in
+    let n = c.in_ok-operate-in-Binary.field-0 in
     let left = expression_of arm.left.value in
     let right = expression_of arm.right.value in
-    let r = c.operate.result in
+    let tree : expression_of c.args.e.now ≡ binary arm.operator left right = search (rules, the_lemmas) in
+    let first : expression scope callee left s ≡ normal a middle = ap (λ e. expression scope callee (expression_of e) s) (sym c.deref-in-Binary.ensures) ∙ c.in_ok-a-in-Binary.ensures in
+    let second : expression scope callee right middle ≡ normal b last = ap (λ e. expression scope callee (expression_of e) middle) (sym c.deref-in-Binary-2.ensures) ∙ c.in_ok-b-in-Binary.ensures in
+    let fits_a : FitsSigned w64 a = search rules in
+    let fits_b : FitsSigned w64 b = search rules in
+    let fits : FitsSigned w64 n = search rules in
+    let typed = c.type_of-in-Binary.ensures ∙ ap (type_of scope) tree in
+    binary_then scope callee arm.operator left right (expression_of c.args.e.now) s middle last _ a _ b _ (normal n last) tree typed (to_z-of_z w64 a fits_a) (to_z-of_z w64 b fits_b) first second (c.in_ok-operate-in-Binary.ensures last)
+    ∙ ap (λ n. normal n last) (sym (to_z-of_z w64 n fits))
+
+pub expressions::evaluate-returns-in_err-operate-in-Binary : goal.expressions::evaluate-returns-in_err-operate-in-Binary
+expressions::evaluate-returns-in_err-operate-in-Binary t c =
+    let arm = c.in-Binary in
+    let scope = scope_in c.args.frame.now in
+    let callee = calls_in c.args.frame.now in
+    let s = c.args.state.now in
+    let middle = c.evaluate-in-Binary.new.state in
+    let last = c.evaluate-in-Binary-2.new.state in
+    let a = c.in_ok-a-in-Binary.a in
+    let b = c.in_ok-b-in-Binary.b in
+    let reason = c.in_err-operate-in-Binary.field-0.0 in
+    let left = expression_of arm.left.value in
+    let right = expression_of arm.right.value in
     let tree : expression_of c.args.e.now ≡ binary arm.operator left right = search (rules, the_lemmas) in
     let first : expression scope callee left s ≡ normal a middle = ap (λ e. expression scope callee (expression_of e) s) (sym c.deref-in-Binary.ensures) ∙ c.in_ok-a-in-Binary.ensures in
     let second : expression scope callee right middle ≡ normal b last = ap (λ e. expression scope callee (expression_of e) middle) (sym c.deref-in-Binary-2.ensures) ∙ c.in_ok-b-in-Binary.ensures in
     let fits_a : FitsSigned w64 a = search rules in
     let fits_b : FitsSigned w64 b = search rules in
     let typed = c.type_of-in-Binary.ensures ∙ ap (type_of scope) tree in
-    let by_type = subst (λ t. Does r last (operate arm.operator t (to_z w64 (of_z w64 a)) (to_z w64 (of_z w64 b)) last)) typed (c.operate.ensures last) in
-    let done : Does r last (operate arm.operator (type_of scope (binary arm.operator left right)) a b last) = subst₂ (λ a b. Does r last (operate arm.operator (type_of scope (binary arm.operator left right)) a b last)) (to_z-of_z w64 a fits_a) (to_z-of_z w64 b fits_b) by_type in
-    subst (λ e. Does r last (expression scope callee e s)) (sym tree) (binary_then scope callee arm.operator left right s middle last a b r first second done)
+    let whole = binary_then scope callee arm.operator left right (expression_of c.args.e.now) s middle last _ a _ b _ (early (reason_of reason) last) tree typed (to_z-of_z w64 a fits_a) (to_z-of_z w64 b fits_b) first second (c.in_err-operate-in-Binary.ensures last) in
+    let p = err_from_is_err_and c.from_residual-in_err-operate-in-Binary.result c.from_residual-in_err-operate-in-Binary.ensures.1 in
+    rw (p.1, p.2) whole
 
 pub simple::augment_element-returns : goal.simple::augment_element-returns
 simple::augment_element-returns t c =
