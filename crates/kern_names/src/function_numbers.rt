@@ -24,7 +24,7 @@ impl Model for FunctionNumbers {
 
 impl FunctionNumbers {
     /// No functions.
-    pub fn new(alloc: Global) -> FunctionNumbers
+    pub(crate) fn new(alloc: Global) -> FunctionNumbers
         ensures { result ≡ [] }
     {
         FunctionNumbers {
@@ -40,7 +40,12 @@ impl FunctionNumbers {
     }
 
     /// Adds a function whose name isn't there.
-    pub fn add(&mut self, alloc: Global, name: &[u8], number: usize) -> Result<(), AllocError>
+    pub(crate) fn add(
+        &mut self,
+        alloc: Global,
+        name: &[u8],
+        number: usize,
+    ) -> Result<(), AllocError>
         requires { look_up self.old name.now ≡ None }
         ensures { OnOk result (self.new ≡ self.old ++ (name.now, number) ∷ []) }
     {

@@ -36,7 +36,7 @@ impl Names {
     ghost use Rattle.kern_calls.specs.Types.{with_name};
 
     /// No names.
-    pub fn new(alloc: Global) -> Names
+    pub(crate) fn new(alloc: Global) -> Names
         ensures { result ≡ [] }
     {
         Names {
@@ -78,7 +78,12 @@ impl Names {
     }
 
     /// Puts a name that isn't there behind the others.
-    pub fn add(&mut self, alloc: Global, name: &[u8], kind: ValueType) -> Result<(), AllocError>
+    pub(crate) fn add(
+        &mut self,
+        alloc: Global,
+        name: &[u8],
+        kind: ValueType,
+    ) -> Result<(), AllocError>
         requires { look_up self.old name.now ≡ None }
         ensures { OnOk result (self.new ≡ self.old ++ (name.now, kind) ∷ []) }
     {
@@ -88,7 +93,12 @@ impl Names {
     }
 
     /// Assigns to a name: a new one goes behind the others, a known one keeps its place and its type.
-    pub fn assign(&mut self, alloc: Global, name: &[u8], kind: ValueType) -> Result<(), AllocError>
+    pub(crate) fn assign(
+        &mut self,
+        alloc: Global,
+        name: &[u8],
+        kind: ValueType,
+    ) -> Result<(), AllocError>
         ensures { OnOk result (self.new ≡ with_name self.old name.now kind) }
     {
         match self.kind(name) {
