@@ -14,10 +14,11 @@ use Rattle.desk_kernels.specs.Chairs.{CoreChair}
 use Rattle.lab_workers.specs.declared.desks.Desks.{Desks}
 use Rattle.lab_workers.specs.Workers.{IsFree, SchedChair, WorkerValue}
 use Rattle.lab_crew.specs.declared.member.Member.{Member}
-use Rattle.lab_crew.specs.Columns.{HasRoom, Row, TakesLast, column, columns_of, fronts, items_of}
-use Rattle.lab_crew.specs.Crews.{AreNewChairs, new_worker, new_workers}
+use Rattle.lab_desks.specs.Columns.{HasRoom, Row, TakesLast, column, columns_of, fronts, items_of}
+use Rattle.lab_desks.specs.Seats.{AreNewChairs}
+use Rattle.lab_crew.specs.Crews.{new_worker, new_workers}
 use Rattle.lab_crew.proofs.Ended.{worker_of}
-use Rattle.lab_crew.proofs.Fronts.{fronts-some, fronts-whole, takes-fronts}
+use Rattle.lab_desks.proofs.Fronts.{fronts-some, fronts-whole, takes-fronts}
 
 -- ---- columns of new chairs
 

@@ -21,8 +21,9 @@ use Rattle.lab_workers.specs.Laws.{JudgementsLast}
 use Rattle.lab_workers.specs.declared.desks.Desks.{Desks}
 use Rattle.lab_workers.specs.Workers.{SchedChair, WorkerValue, is_halt, sched_entries}
 use Rattle.lab_workers.proofs.Entries.{sched-further}
-use Rattle.lab_crew.specs.Closed.{IsClosedSched}
-use Rattle.lab_crew.specs.Crews.{AreSetFor, IsCrewDone, IsDone, IsFreeWorker}
+use Rattle.lab_desks.specs.Closed.{IsClosedSched}
+use Rattle.lab_desks.specs.Seats.{AreSetFor}
+use Rattle.lab_crew.specs.Crews.{IsCrewDone, IsDone, IsFreeWorker}
 use Rattle.lab_crew.proofs.Among.{below-each, each-act}
 use Rattle.lab_crew.proofs.Leaving.{both-each, of-number, of-scheds}
 use Rattle.lab_crew.proofs.Over.{flying-none, no-halt, none-filtered}

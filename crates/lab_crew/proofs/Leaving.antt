@@ -14,9 +14,10 @@ use Rattle.desk_kernels.specs.Chairs.{CoreChair}
 use Rattle.lab_workers.specs.declared.desks.Desks.{Desks}
 use Rattle.lab_workers.specs.Workers.{IsFree, IsWorkerAt, SchedChair, WorkerValue}
 use Rattle.lab_crew.specs.declared.member.Member.{Member}
-use Rattle.lab_crew.specs.Closed.{AreChairsOf}
-use Rattle.lab_crew.specs.Columns.{Row, column, items_of}
-use Rattle.lab_crew.specs.Crews.{AreSetFor, HasWorker, IsCrewDone, IsFreeWorker}
+use Rattle.lab_desks.specs.Closed.{AreChairsOf}
+use Rattle.lab_desks.specs.Columns.{Row, column, items_of}
+use Rattle.lab_desks.specs.Seats.{AreSetFor}
+use Rattle.lab_crew.specs.Crews.{HasWorker, IsCrewDone, IsFreeWorker}
 use Rattle.lab_crew.proofs.Ended.{worker_of}
 
 -- ---- of one worker among all

@@ -1,10 +1,5 @@
-pub mod Taking
-pub mod Opened
-pub mod Fronts
-pub mod Behind
 pub mod Among
 pub mod Over
-pub mod Set
 pub mod Ended
 pub mod Dealt
 pub mod Leaving

@@ -16,8 +16,9 @@ use Rattle.desk_kernels.specs.Chairs.{CoreChair, KnowsItsOwn, core_entries}
 use Rattle.lab_workers.specs.declared.desks.Desks.{Desks}
 use Rattle.lab_workers.specs.Workers.{AreDesksOf, IsAtRest, IsTiedAt, IsWorkerAt, SchedChair, WorkerValue, halts}
 use Rattle.lab_crew.specs.declared.member.Member.{Member}
-use Rattle.lab_crew.specs.Columns.{Row, items_of}
-use Rattle.lab_crew.specs.Crews.{AreNewChairs, MayWork, new_worker, new_workers}
+use Rattle.lab_desks.specs.Columns.{Row, items_of}
+use Rattle.lab_desks.specs.Seats.{AreNewChairs}
+use Rattle.lab_crew.specs.Crews.{MayWork, new_worker, new_workers}
 use Rattle.lab_crew.proofs.Ended.{worker_of}
 
 -- ---- how many they are

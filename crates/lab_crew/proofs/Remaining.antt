@@ -32,9 +32,10 @@ use Rattle.desk_kernels.proofs.Seen.{booked-entries}
 use Rattle.lab_workers.specs.declared.desks.Desks.{Desks}
 use Rattle.lab_workers.specs.Workers.{IsFree, WorkerValue, sched_entries}
 use Rattle.lab_workers.proofs.Entries.{core-further, sched-further}
-use Rattle.lab_crew.specs.Closed.{AreClosed, IsClosedCore, IsClosedSched}
-use Rattle.lab_crew.specs.Columns.{column}
-use Rattle.lab_crew.specs.Crews.{AreSetFor, IsCrewDone, IsFreeWorker}
+use Rattle.lab_desks.specs.Closed.{AreClosed, IsClosedCore, IsClosedSched}
+use Rattle.lab_desks.specs.Columns.{column}
+use Rattle.lab_desks.specs.Seats.{AreSetFor}
+use Rattle.lab_crew.specs.Crews.{IsCrewDone, IsFreeWorker}
 use Rattle.lab_crew.proofs.Among.{below-each, none-behind}
 use Rattle.lab_crew.proofs.Finishing.{Stands, finished-sched, stand}
 use Rattle.lab_crew.proofs.Leaving.{AtPlace, HasPlace, both-each, each-get, has-place, of-column, of-number, rows_of}

@@ -1,28 +1,15 @@
 -- The workers of a crew, as they are seated and as they end.
 use Rattle.std.specs.Prelude.{◌≡◌, ℕ, zero, suc, ◌<◌, List, [], ◌∷◌, map, ◌⊎◌, Some, IsTrue}
 use Rattle.desk_rule.specs.Histories.{Each}
-use Rattle.desk.specs.Seated.{Opened, new_chair, new_chairs}
+use Rattle.desk.specs.Seated.{Opened, new_chair}
 use Rattle.rtio_core.specs.declared.data.Config.{Config}
 use Rattle.exp_model.specs.declared.session.Session.{Session}
 use Rattle.sched_state.specs.Lawful.{state_after}
 use Rattle.sched_state.specs.Picks.{is_over}
-use Rattle.desk_kernels.specs.Chairs.{CoreChair}
 use Rattle.lab_workers.specs.declared.desks.Desks.{Desks}
 use Rattle.lab_workers.specs.declared.worker.WorkEnd.TheVariants.{Finished}
-use Rattle.lab_workers.specs.Workers.{AreDesksOf, IsAtRest, IsFree, IsWorkerAt, SchedChair, WorkerValue, halts, sched_entries}
+use Rattle.lab_workers.specs.Workers.{IsAtRest, IsFree, IsWorkerAt, WorkerValue, halts, sched_entries}
 use Rattle.lab_crew.specs.declared.member.Member.{Member}
-use Rattle.lab_crew.specs.Columns.{Row, columns_of, items_of}
-
--- the desks are those of their session, and each has a chair for every worker
-pub record AreSetFor (workers : ℕ) (desks : Desks) : Type 0 where
-  pub of : AreDesksOf desks
-  pub sched : desks.sched.chairs ≡ workers
-  pub cores : Each (λ (desk : Opened Config). desk.chairs ≡ workers) desks.cores.items
-
--- the chairs of the desks, all new
-pub record AreNewChairs (workers : ℕ) (desks : Desks) (scheds : List SchedChair) (columns : List (Row CoreChair)) : Type 0 where
-  pub sched : scheds ≡ new_chairs desks.sched.id 0 workers
-  pub cores : map items_of columns ≡ columns_of workers desks.cores.items
 
 -- a worker that has the new chairs with its number
 abbrev pub new_worker : Desks → ℕ → WorkerValue

@@ -1,4 +1,2 @@
-pub mod Columns
-pub mod Closed
 pub mod Crews
 pub mod Rooms

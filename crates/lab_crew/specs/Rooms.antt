@@ -4,8 +4,9 @@ use Rattle.exp_model.specs.declared.session.Session.{Session}
 use Rattle.lab_crew.specs.declared.member.Member.{Member}
 use Rattle.lab_crew.specs.declared.member.Room.{Room}
 use Rattle.lab_crew.specs.declared.preparing.Prepared.{Prepared}
-use Rattle.lab_crew.specs.Columns.{HasRoom}
-use Rattle.lab_crew.specs.Crews.{AreSetFor, new_workers}
+use Rattle.lab_desks.specs.Columns.{HasRoom}
+use Rattle.lab_desks.specs.Seats.{AreSetFor}
+use Rattle.lab_crew.specs.Crews.{new_workers}
 
 -- there is room for the chairs of so many workers at the desks of so many cores, and for these cores
 pub record IsRoomFor (workers pipelines : ℕ) (room : Room) : Type 0 where

@@ -1,12 +1,13 @@
 // Workers, each with a chair at every desk.
 
 ghost use Rattle.std.specs.Prelude.{◌≡◌, [], IfOk, length, map, vec_capacity, All};
-ghost use Rattle.lab_crew.specs.Columns.{HasRoom};
-ghost use Rattle.lab_crew.specs.Crews.{AreNewChairs, new_workers};
+ghost use Rattle.lab_desks.specs.Columns.{HasRoom};
+ghost use Rattle.lab_desks.specs.Seats.{AreNewChairs};
+ghost use Rattle.lab_crew.specs.Crews.{new_workers};
 
-use crate::columns::last_of_each;
 use crate::member::Member;
 use desk::Chair;
+use lab_desks::last_of_each;
 use lab_kits::Kit;
 use lab_workers::{Desks, Worker};
 use rtio_core::Core;

@@ -1,7 +1,7 @@
 // The chairs of workers that have ended.
 
 ghost use Rattle.std.specs.Prelude.{◌≡◌, length, map, All};
-ghost use Rattle.lab_crew.specs.Columns.{HasRoom};
+ghost use Rattle.lab_desks.specs.Columns.{HasRoom};
 ghost use Rattle.lab_crew.specs.Crews.{IsFreeWorker};
 
 use crate::member::Member;

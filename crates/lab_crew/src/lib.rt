@@ -3,12 +3,10 @@
 #![tactic(auto)]
 
 mod closing;
-mod columns;
 mod crew;
 mod dealing;
 mod gathering;
 mod member;
-mod opening;
 mod preparing;
 mod threads;
 

@@ -8,8 +8,8 @@ ghost use Rattle.lab_crew.specs.Rooms.{IsPrepared};
 
 use crate::dealing::seat_workers;
 use crate::member::{Member, Room};
-use crate::opening::{Chairs, open_desks};
 use exp_model::Session;
+use lab_desks::{Chairs, open_desks};
 use lab_kits::Kit;
 use lab_workers::Desks;
 use rtio_core::Core;

@@ -2,8 +2,8 @@ use Rattle.std.proofs.Common.{◌≡◌, List, map, sym, ap, subst, ◌∙◌}
 use Rattle.std.specs.Prelude.{All}
 use Rattle.desk_kernels.specs.Chairs.{CoreChair}
 use Rattle.lab_workers.specs.Workers.{SchedChair}
-use Rattle.lab_crew.specs.Closed.{AreChairsOf, AreClosed, IsClosedSched}
-use Rattle.lab_crew.specs.Columns.{HasRoom, column, items_of}
+use Rattle.lab_desks.specs.Closed.{AreChairsOf, AreClosed, IsClosedSched}
+use Rattle.lab_desks.specs.Columns.{HasRoom, column, items_of}
 use Rattle.lab_crew.proofs.Ended.{worker_of}
 use Rattle.lab_crew.proofs.Leaving.{core-chairs, gathered-count, gathered-free, gathered-rows, gathered-scheds, row-lengths, rows_of, sched-chairs}
 use Rattle.lab_crew.proofs.Remaining.{finished}
@@ -40,4 +40,4 @@ returns c =
     (subst (λ (cs : List SchedChair). IsClosedSched c.args.desks.sched cs c.close_sched-sched.result) (c.gather.ensures.scheds ∙ gathered-scheds c.args.crew.items) c.close_sched-sched.ensures)
     (subst (λ (l : List (List CoreChair)). AreClosed l 0 c.args.desks.cores.items c.close_cores-cores.result.items)
     (ap (map items_of) c.as_mut_slice.ensures.value ∙ c.gather.ensures.rows ∙ gathered-rows c.args.crew.items)
-    c.close_cores-cores.ensures)
+    c.close_cores-cores.ensures.cores)

@@ -1,6 +1,6 @@
 use Rattle.std.proofs.Common.{◌≡◌, ◌≤◌, map, vec_capacity}
 use Rattle.std.specs.List.{All}
-use Rattle.lab_crew.specs.Columns.{items_of}
+use Rattle.lab_desks.specs.Columns.{items_of}
 use Rattle.lab_crew.specs.Crews.{IsFreeWorker}
 use Rattle.lab_crew.proofs.gathering.gather.Given as goal
 

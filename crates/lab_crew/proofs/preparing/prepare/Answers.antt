@@ -1,8 +1,9 @@
 use Rattle.std.proofs.Common.{length, sym, ap, subst, ◌∙◌, arith}
 use Rattle.std.specs.Prelude.{All}
 use Rattle.std.proofs.lemmas.List.{with_items_is}
-use Rattle.lab_crew.specs.Columns.{HasRoom}
-use Rattle.lab_crew.specs.Crews.{AreNewChairs, new_workers}
+use Rattle.lab_desks.specs.Columns.{HasRoom}
+use Rattle.lab_desks.specs.Seats.{AreNewChairs}
+use Rattle.lab_crew.specs.Crews.{new_workers}
 use Rattle.lab_crew.proofs.Ready.{crew-count, new-columns, new-count}
 use Rattle.lab_crew.proofs.preparing.prepare.Goals as goal
 

@@ -11,9 +11,9 @@ use Rattle.desk.proofs.Gathered.{moved_one}
 use Rattle.rtio_core.specs.Core.{CoreState}
 use Rattle.rtio_core.specs.declared.data.Act.{Act}
 use Rattle.rtio_core.specs.declared.data.Config.{Config}
-use Rattle.lab_crew.specs.Columns.{Row, HasRoom, TakesLast, column, fronts, items_of}
-use Rattle.lab_crew.specs.Closed.{AreChairsOf, AreClosed, IsClosedCore}
-use Rattle.lab_crew.proofs.Fronts.{fronts-some, fronts-whole, takes-fronts}
+use Rattle.lab_desks.specs.Columns.{Row, HasRoom, TakesLast, column, fronts, items_of}
+use Rattle.lab_desks.specs.Closed.{AreChairsOf, AreClosed, IsClosedCore}
+use Rattle.lab_desks.proofs.Fronts.{fronts-some, fronts-whole, takes-fronts}
 
 abbrev Chair : Type 0
 Chair = Seated Act Config
@@ -37,6 +37,20 @@ pub record IsClosing (rows : List (List Chair)) (all desks : List (Opened Config
   pub rooms_count : length rooms ≡ length desks
   pub rooms_are : All (HasRoom (length rows)) rooms
   pub room : length cores + length desks ≤ capacity
+
+-- where no desk is left the rows are empty
+emptied : (rows : List (List Chair)) (left : List (Row Chair)) → map items_of left ≡ fronts 0 rows → AllByRecursion (λ row. row.items ≡ []) left
+emptied rows [] is = tt
+emptied [] (v ∷ vs) is = absurd (cc)
+emptied (r ∷ rows) (v ∷ vs) is =
+    let first : v.items ≡ [] = cc in
+    let others : map items_of vs ≡ fronts 0 rows = cc in
+    (first, emptied rows vs others)
+
+pub closing_last : (rows : List (List Chair)) (all desks : List (Opened Config)) (left rooms : List (Row Chair)) (cores : List CoreState) (capacity : ℕ)
+    → IsClosing rows all desks left rooms cores capacity → desks ≡ [] → All (λ row. row.items ≡ []) left
+closing_last rows all desks left rooms cores capacity c none =
+    All-from_recursion (λ row. row.items ≡ []) left (emptied rows left (c.fronts_are ∙ ap (λ (ds : List (Opened Config)). fronts (length ds) rows) none))
 
 abbrev count_is : (desks fewer : List (Opened Config)) (desk : Opened Config) → desks ≡ fewer ++ desk ∷ [] → length desks ≡ suc (length fewer)
 count_is desks fewer desk is = let len = ap length is ∙ length-append fewer (desk ∷ []) in omega (arith, len)

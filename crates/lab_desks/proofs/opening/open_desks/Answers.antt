@@ -1,7 +1,7 @@
 use Rattle.std.proofs.Common.{ap, ◌∙◌}
 use Rattle.sched_core.specs.Scheds.{SchedValue}
-use Rattle.lab_crew.proofs.Set.{new-empty, set-for}
-use Rattle.lab_crew.proofs.opening.open_desks.Goals as goal
+use Rattle.lab_desks.proofs.Set.{new-empty, set-for}
+use Rattle.lab_desks.proofs.opening.open_desks.Goals as goal
 
 pub open_cores-requires-clause-new : goal.open_cores-requires-clause-new
 open_cores-requires-clause-new c = new-empty c.args.session.now c.args.cores.items c.requires.cores

@@ -3,7 +3,7 @@ use Rattle.std.proofs.Common.{◌≡◌, ℕ, zero, suc, ◌<◌, ◌≤◌, Lis
 use Rattle.std.specs.Prelude.{Option, Some, slice_get}
 use Rattle.std.specs.List.{AllByRecursion, cons_option}
 use Rattle.std.proofs.lemmas.List.{same_from_push}
-use Rattle.lab_crew.specs.Columns.{Row, TakesLast, column, fronts, items_of}
+use Rattle.lab_desks.specs.Columns.{Row, TakesLast, column, fronts, items_of}
 
 module _ {X : Type 0} where
   -- the last of a row up to a place

@@ -1,5 +1,6 @@
-use Rattle.lab_crew.proofs.Behind.{closing-chairs, closing-first, closing-more, closing-room, closing-some}
-use Rattle.lab_crew.proofs.closing.close_cores.Goals as goal
+use Rattle.std.proofs.Common.{rules, ◌≡◌, []}
+use Rattle.lab_desks.proofs.Behind.{closing-chairs, closing-first, closing_last, closing-more, closing-room, closing-some}
+use Rattle.lab_desks.proofs.closing.close_cores.Goals as goal
 
 pub loop-desk-init : goal.loop-desk-init
 loop-desk-init c =
@@ -24,3 +25,8 @@ loop-desk-preserved c =
     closing-more _ c.args.desks.items c.loop-desk.desks.items c.pop.new.self.items c.in-Some.desk c.loop-desk.rows c.loop-desk.rooms.items c.loop-desk.cores.items _ c.loop-desk.invariant c.in-Some.ensures.items
     c.last_of_each.new.rows c.pop-in-Some.new.self.items c.in-Some-pop.chairs c.last_of_each.new.column.items c.close_core.result c.push.new.self.items _
     c.last_of_each.ensures c.last_of_each.auto.rows c.in-Some-pop.ensures.items c.close_core.ensures c.in-Ok.ensures.items c.in-Ok.ensures.capacity
+
+pub returns-clause-rows : goal.returns-clause-rows
+returns-clause-rows c =
+    let none : c.loop-desk.desks.items ≡ [] = first_of (search (rules), cc) in
+    closing_last _ c.args.desks.items c.loop-desk.desks.items c.loop-desk.rows c.loop-desk.rooms.items c.loop-desk.cores.items _ c.loop-desk.invariant none

@@ -12,7 +12,7 @@ use Rattle.exp_model.specs.declared.session.Session.{Session}
 use Rattle.sched_state.specs.declared.entry.SchedAct.{SchedAct}
 use Rattle.sched_core.specs.Booked.{booked_acts as booked_sched}
 use Rattle.sched_core.specs.Scheds.{IsSched, SchedValue}
-use Rattle.lab_crew.specs.Columns.{column}
+use Rattle.lab_desks.specs.Columns.{column}
 
 module _ {A F : Type 0} where
   -- these are all chairs of the desk, and none of them holds anything

@@ -12,8 +12,8 @@ use Rattle.exp_model.specs.declared.session.Session.{Session}
 use Rattle.exp_model.specs.Sessions.{is_session}
 use Rattle.lab_workers.specs.Settings.{config_at, config_of, new_cores}
 use Rattle.lab_workers.specs.declared.desks.Desks.{Desks}
-use Rattle.lab_crew.specs.Columns.{IsDeskOf}
-use Rattle.lab_crew.specs.Crews.{AreSetFor}
+use Rattle.lab_desks.specs.Columns.{IsDeskOf}
+use Rattle.lab_desks.specs.Seats.{AreSetFor}
 
 -- new cores have empty histories
 pub new-empty : (session : Session) (cores : List CoreState) → cores ≡ new_cores session → All (λ core. core.history ≡ []) cores

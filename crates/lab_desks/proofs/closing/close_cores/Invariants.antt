@@ -1,7 +1,7 @@
 use Rattle.std.proofs.Common.{map, vec_len, vec_capacity}
-use Rattle.lab_crew.specs.Columns.{items_of}
-use Rattle.lab_crew.proofs.Behind.{IsClosing}
-use Rattle.lab_crew.proofs.closing.close_cores.Given as goal
+use Rattle.lab_desks.specs.Columns.{items_of}
+use Rattle.lab_desks.proofs.Behind.{IsClosing}
+use Rattle.lab_desks.proofs.closing.close_cores.Given as goal
 
 abbrev pub invariant-loop-desk : goal.invariant-loop-desk
 invariant-loop-desk l =

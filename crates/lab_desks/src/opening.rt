@@ -5,8 +5,8 @@ ghost use Rattle.std.specs.List.{AllZip};
 ghost use Rattle.exp_model.specs.Sessions.{is_session};
 ghost use Rattle.sched_core.specs.Scheds.{new_sched};
 ghost use Rattle.lab_workers.specs.Settings.{new_cores};
-ghost use Rattle.lab_crew.specs.Columns.{IsDeskOf, columns_of};
-ghost use Rattle.lab_crew.specs.Crews.{AreNewChairs, AreSetFor};
+ghost use Rattle.lab_desks.specs.Columns.{IsDeskOf, columns_of};
+ghost use Rattle.lab_desks.specs.Seats.{AreNewChairs, AreSetFor};
 
 use desk::{Chair, Desk};
 use exp_model::Session;
@@ -18,11 +18,11 @@ use std::alloc::{AllocError, Global};
 
 /// The chairs of all desks.
 #[derive(Drop)]
-pub(crate) struct Chairs {
+pub struct Chairs {
     /// Those of the scheduler's.
-    pub(crate) scheds: Vec<Chair<Sched<Kit>>>,
+    pub scheds: Vec<Chair<Sched<Kit>>>,
     /// Those of each core's, by pipeline.
-    pub(crate) columns: Vec<Vec<Chair<Core>>>,
+    pub columns: Vec<Vec<Chair<Core>>>,
 }
 
 // A desk for each core, and the chairs of each desk.
@@ -48,8 +48,10 @@ fn open_cores(
     Ok((desks, columns))
 }
 
-/// Opens a desk for the scheduler of a session and one for each core, with so many chairs each.
-pub(crate) fn open_desks(
+/// Opens a desk for the scheduler of a session and one for each core, with a chair for each of so many workers, at least one. The
+/// scheduler is new and of this session, and the cores are new, one for each pipeline with its settings. The only error is want of
+/// memory.
+pub fn open_desks(
     alloc: Global,
     session: &Session,
     sched: Sched<Kit>,

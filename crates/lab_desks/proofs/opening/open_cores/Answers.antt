@@ -1,5 +1,5 @@
-use Rattle.lab_crew.proofs.Opened.{opened-more}
-use Rattle.lab_crew.proofs.opening.open_cores.Goals as goal
+use Rattle.lab_desks.proofs.Opened.{opened-more}
+use Rattle.lab_desks.proofs.opening.open_cores.Goals as goal
 
 pub loop-core-preserved : goal.loop-core-preserved
 loop-core-preserved c =

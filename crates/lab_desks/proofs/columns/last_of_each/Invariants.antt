@@ -1,6 +1,6 @@
 use Rattle.std.proofs.Common.{◌≡◌, ◌≤◌, vec_capacity, vec_len}
-use Rattle.lab_crew.proofs.Taking.{IsTaken}
-use Rattle.lab_crew.proofs.columns.last_of_each.Given as goal
+use Rattle.lab_desks.proofs.Taking.{IsTaken}
+use Rattle.lab_desks.proofs.columns.last_of_each.Given as goal
 
 -- those before this one are taken, and the column has room for the others
 abbrev pub invariant-loop-row : goal.invariant-loop-row

@@ -3,7 +3,7 @@ use Rattle.std.proofs.Common.{◌≡◌, ℕ, ◌+◌, ◌<◌, ◌≤◌, List,
 use Rattle.std.specs.Prelude.{vec_capacity}
 use Rattle.std.proofs.Math.ListN.{set}
 use Rattle.std.proofs.lemmas.List.{take_more, take_more_set, get_or-set_other}
-use Rattle.lab_crew.specs.Columns.{Row, TakesLast}
+use Rattle.lab_desks.specs.Columns.{Row, TakesLast}
 
 module _ {X : Type 0} where
   takes-push : (os ns : List (Row X)) (xs : List X) (o n : Row X) (x : X) → TakesLast os ns xs → o.items ≡ n.items ++ x ∷ [] → vec_capacity n ≡ vec_capacity o → TakesLast (os ++ o ∷ []) (ns ++ n ∷ []) (xs ++ x ∷ [])

@@ -6,7 +6,7 @@ use Rattle.rtio_core.specs.Core.{CoreState}
 use Rattle.rtio_core.specs.declared.data.Act.{Act}
 use Rattle.rtio_core.specs.declared.data.Config.{Config}
 use Rattle.desk.specs.Seated.{Opened, Seated, new_chairs}
-use Rattle.lab_crew.specs.Columns.{Row, IsDeskOf, columns_of, items_of}
+use Rattle.lab_desks.specs.Columns.{Row, IsDeskOf, columns_of, items_of}
 
 zip-push : {A B : Type 0} (R : A → B → Type 0) (xs : List A) (ys : List B) (x : A) (y : B) → AllZip R xs ys → R x y → AllZip R (xs ++ x ∷ []) (ys ++ y ∷ [])
 zip-push R [] [] x y h r = (r, tt)

@@ -1,6 +1,6 @@
 use Rattle.std.proofs.Common.{◌≡◌, ◌<◌, length, arith}
-use Rattle.lab_crew.proofs.Taking.{taken-more}
-use Rattle.lab_crew.proofs.columns.last_of_each.Goals as goal
+use Rattle.lab_desks.proofs.Taking.{taken-more}
+use Rattle.lab_desks.proofs.columns.last_of_each.Goals as goal
 
 pub loop-row-preserved : goal.loop-row-preserved
 loop-row-preserved g c =
