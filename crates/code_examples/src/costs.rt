@@ -21,8 +21,8 @@ fn steps(rt: &impl Abort, alloc: Global, n: u32, body: &str) -> Result<u64, Fail
 // A `for` takes at most 11 instructions a turn beside its body, and a `while` 3 beside its condition and its body. A delay by
 // a literal takes 2, also by one below 0, a comparison of two names 3, and an addition of a literal to a name of 64 bits 4. A
 // condition whose opposite is asked takes what the opposite takes, a `while` then 2 a turn, and an `if` 1 where it holds.
-// Parentheses and `not` in a condition take none. What can't leave 32 bits isn't wrapped. A parallel block takes 2, and 6 a
-// statement.
+// Parentheses and `not` in a condition take none. What can't leave 32 bits isn't wrapped. An array's list takes 1, and 3 for
+// each further element, beside the elements. A parallel block takes 2, and 6 a statement, but 6 with one statement alone.
 #[test]
 fn turns_take_few_instructions(rt: HostRuntime) -> Result<(), Fail> {
     let alloc = rt.alloc();
@@ -46,8 +46,8 @@ fn turns_take_few_instructions(rt: HostRuntime) -> Result<(), Fail> {
             9,
         ),
         (
-            "    k = 9\n    for i in range(n):\n        k = k % 8\n        k = k & 7\n",
-            19,
+            "    k = 9\n    for i in range(n):\n        k = k % 8\n        k = k & 7\n        k = 7 & k\n",
+            23,
         ),
         (
             "    for i in range(n):\n        if not i == 99:\n            delay_mu(-5)\n",
@@ -61,9 +61,11 @@ fn turns_take_few_instructions(rt: HostRuntime) -> Result<(), Fail> {
             "    for i in range(n):\n        if (i >= 99):\n            delay_mu(5)\n",
             16,
         ),
+        ("    for i in range(n):\n        a = [i]\n", 13),
+        ("    for i in range(n):\n        a = [i, n, 5]\n", 21),
         (
             "    for i in range(n):\n        with parallel:\n            delay_mu(5)\n",
-            21,
+            19,
         ),
         (
             "    for i in range(n):\n        with parallel:\n            delay_mu(5)\n            delay_mu(7)\n",

@@ -110,6 +110,18 @@ def main():
 "#,
         "a = [9, 151], x = 8, a = [9, 151], d = 62, Returned, cursor 60, units 87",
     ),
+    // A list whose last element raises leaves the array as it was.
+    (
+        r#"
+def main():
+    a = [6, 7]
+    try:
+        a = [9, 1 // 0]
+    except ZeroDivisionError:
+        set_dataset("a", a)
+"#,
+        "a = [6, 7], Returned, cursor 0, units 99",
+    ),
     // A handler within a function, and one within a handler.
     (
         r#"

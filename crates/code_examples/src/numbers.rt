@@ -214,14 +214,15 @@ def main():
     set_dataset("d", 12 ^ 10)
     set_dataset("d", ~12)
     set_dataset("d", -1 & 255)
+    set_dataset("d", 255 & -3)
     set_dataset("d", -256 | 1)
     set_dataset("d", -1 ^ 1)
     set_dataset("d", -1 & 4294967296)
     set_dataset("d", 4294967296 | 1)
     set_dataset("d", ~4294967296)
 "#,
-        "d = 8, d = 14, d = 6, d = -13, d = 255, d = -255, d = -2, d = 4294967296, d = 4294967297, \
-         d = -4294967297, Returned, cursor 0, units 90",
+        "d = 8, d = 14, d = 6, d = -13, d = 255, d = 253, d = -255, d = -2, d = 4294967296, \
+         d = 4294967297, d = -4294967297, Returned, cursor 0, units 89",
     ),
     // Each operator binds less than those behind it here: | ^ & << + *, and each goes from left to right.
     (

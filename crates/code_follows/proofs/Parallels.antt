@@ -1,4 +1,5 @@
--- A parallel block follows its meaning: its start and the greatest end so far are kept in two temporary slots.
+-- A parallel block follows its meaning: the greatest end so far is kept in a temporary slot and, if there is a second statement,
+-- its start in the one before.
 use Rattle.std.proofs.Common.{ℕ, ◌+◌, ◌≤◌, List, [], ◌∷◌, length, refl, arith}
 use Rattle.std.specs.Prelude.{ℤ, pos, negsuc, ⊤}
 use Rattle.std.specs.Int.{int_max}
@@ -8,14 +9,12 @@ use Rattle.timeline_sem.specs.Laws.{final}
 use Rattle.core_isa.specs.declared.code.Code.{Code}
 use Rattle.core_isa.specs.declared.instr.Instr.TheVariants as I
 use Rattle.code_follows.specs.Stands.{holding, Setting, Fits64}
-use Rattle.code_follows.specs.Parts.{Moved, Follows, Stand, deeper}
+use Rattle.code_follows.specs.Parts.{Moved, Follows, Stand}
 use Rattle.code_follows.proofs.Compose.{follows_bind, follows_then, follows_if, by_fits}
-use Rattle.code_follows.proofs.Beneath.{follows_beneath}
 use Rattle.code_follows.proofs.Instructions.{follows_quiet, follows_two, follows_now, follows_at}
 use Rattle.code_follows.proofs.Flow.{follows_before, follows_forget}
 use Rattle.code_follows.proofs.Loops.{keeping}
-use Rattle.code_follows.proofs.ForLoops.{bare}
-use Rattle.code_follows.proofs.Variables.{own_slot, follows_own, follows_put, follows_keep}
+use Rattle.code_follows.proofs.Variables.{own_slot, follows_own, follows_put, follows_keep, follows_reserve}
 
 max_fits : (a b : ℤ) → Fits64 a → Fits64 b → Fits64 (int_max a b)
 max_fits (pos a) (pos b) f g = grind (arith, f, g)
@@ -56,7 +55,13 @@ module _ (given : List Reply) (code : Code) where
         λ t. follows_before given code (int_max greatest t) (follows_max [] own greatest t (λ p. (p.0.1, p.1)) (st2.0, st2.1, st2.2, tt)) (follows_forget given code (follows_at given code [] own (int_max greatest t) (λ p. p.1) (st3.0, st3.1, st3.2, tt))) in
         follows_before given code greatest (follows_own given code [] own 1 greatest refl (λ p. fg) (at_place.0, at_place.1, at_place.2, tt)) (follows_bind given code (follows_now given code (greatest ∷ []) own (st1.0, st1.1, st1.2, tt)) last)
 
-    -- the beginning of the block
+    -- the beginning of a block without a second statement, which keeps no start
+    pub follows_parallel_one : (place past : ℕ) (body : ℤ → Action ⊤) → ((t : ℤ) (s : State) → Moved s (final (body t s))) → length setting.temporaries + 2 ≤ setting.limit → Stand code.lines place (I.Now ∷ I.Store (own_slot given code setting 1) ∷ []) → ((spare t : ℤ) → Fits64 t → Follows given code premise most setting (place + 1 + 1) past (keeping (spare ∷ t ∷ [])) (λ v. ⊤) (λ v. holding []) (body t)) → Follows given code premise most setting place past (holding []) (λ v. ⊤) (λ v. holding []) (cursor_now >>= λ t. body t)
+    follows_parallel_one place past body moves room at_place fb =
+        let st1 = at_place.3 in
+        follows_reserve given code [] [] (omega (arith, room)) (λ spare. follows_bind given code (follows_now given code [] (spare ∷ []) (at_place.0, at_place.1, at_place.2, tt)) (λ t. follows_before given code tt (follows_keep given code [] (spare ∷ []) t (omega (arith, room)) (st1.0, st1.1, st1.2, tt)) (by_fits given code (moves t) (λ p. p.0.1) (λ f. follows_if given code (λ p. p.0.0) (fb spare t f)))))
+
+    -- the beginning of a block with a second statement
     pub follows_parallel_begin : (place past : ℕ) (body : ℤ → Action ⊤) → ((t : ℤ) (s : State) → Moved s (final (body t s))) → length setting.temporaries + 2 ≤ setting.limit → Stand code.lines place (I.Now ∷ I.Dup ∷ I.Store (own_slot given code setting 0) ∷ I.Store (own_slot given code setting 1) ∷ []) → ((t : ℤ) → Fits64 t → Follows given code premise most setting (place + 1 + 1 + 1 + 1) past (keeping (t ∷ t ∷ [])) (λ v. ⊤) (λ v. holding []) (body t)) → Follows given code premise most setting place past (holding []) (λ v. ⊤) (λ v. holding []) (cursor_now >>= λ t. body t)
     follows_parallel_begin place past body moves room at_place fb =
         let st1 = at_place.3 in

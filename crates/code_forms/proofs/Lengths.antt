@@ -76,7 +76,7 @@ module _ (setting : Setting) (free : ℕ) where
     length-expression mark place (unary op e) =
         unary-length mark (negated op (literal e)) (expression_code setting free mark place e) (unary_instrs op (type_of setting.scope e)) (expression_size setting e) (length-expression mark place e)
     length-expression mark place (binary op a b) =
-        two-operands (expression_code setting free mark place a) (expression_code setting free (raised 1 mark) (place + expression_size setting a) b) (raised 2 mark) (operator_instrs op (wrapped_type op (literal b) (type_of setting.scope (binary op a b)))) (expression_size setting a) (expression_size setting b) (length-expression mark place a) (length-expression (raised 1 mark) (place + expression_size setting a) b)
+        two-operands (expression_code setting free mark place a) (expression_code setting free (raised 1 mark) (place + expression_size setting a) b) (raised 2 mark) (operator_instrs op (wrapped_type op (literal a) (literal b) (type_of setting.scope (binary op a b)))) (expression_size setting a) (expression_size setting b) (length-expression mark place a) (length-expression (raised 1 mark) (place + expression_size setting a) b)
     length-expression mark place (compare op a b) =
         two-operands (expression_code setting free mark place a) (expression_code setting free (raised 1 mark) (place + expression_size setting a) b) (raised 2 mark) (comparison_instrs op) (expression_size setting a) (expression_size setting b) (length-expression mark place a) (length-expression (raised 1 mark) (place + expression_size setting a) b)
     length-expression mark place (negation e) =

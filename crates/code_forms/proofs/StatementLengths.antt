@@ -21,8 +21,8 @@ use Rattle.code_forms.specs.Lines.{line, raised, with_handler, with_recording, s
 use Rattle.code_forms.specs.Operations.{operator_instrs, call_instrs, call_has_value, takes_numbers, array_argument, method_instrs, method_has_value}
 use Rattle.code_forms.specs.Programs.{body_inside, setting_of}
 use Rattle.code_forms.specs.Setting.{Setting, slot_of, length_of, index_of_text}
-use Rattle.code_forms.specs.Sizes.{when, unless, expression_size, arguments_size, call_size, method_size, effect_size, stored_size, return_size, from_size, exit_size, statement_size, block_size, parallel_size, others_size, otherwise_size, handlers_size}
-use Rattle.code_forms.specs.StatementCode.{Inside, keeping, in_loop, under, code_of_name, leaving, returning, no_result, no_value, result_mark, moved, exit, branch_lines, then_place, else_place, end_place, turns_place, for_begins, for_goes_on, next_begins, value_code, second_code, return_code, from_code, stored_code, statement_code, block_code, parallel_code, others_code, otherwise_code, handlers_code}
+use Rattle.code_forms.specs.Sizes.{when, unless, expression_size, arguments_size, call_size, method_size, effect_size, stored_size, return_size, from_size, exit_size, has_second, parallel_begin_size, statement_size, block_size, parallel_size, others_size, otherwise_size, handlers_size}
+use Rattle.code_forms.specs.StatementCode.{Inside, keeping, in_loop, under, code_of_name, leaving, returning, no_result, no_value, result_mark, moved, element_slot, exit, branch_lines, then_place, else_place, end_place, turns_place, for_begins, for_goes_on, parallel_begins, next_begins, value_code, second_code, return_code, from_code, stored_code, statement_code, block_code, parallel_code, others_code, otherwise_code, handlers_code}
 use Rattle.code_forms.proofs.Lengths.{length-straight, length-method, length-expression, length-arguments, call_length}
 
 -- parts one after another
@@ -82,6 +82,11 @@ length-branch : (mark : Mark) (test : List Instr) (c b l r : List CodeLine) {nc 
 length-branch mark test c b l r ec et eb el er =
     five c (straight (raised 1 mark) test) b l r ec et eb el er
 
+-- the beginning of a parallel block
+pub length-begin : (mark : Mark) (inside : Inside) (second : Bool) → length (straight mark (parallel_begins inside second)) ≡ parallel_begin_size second
+length-begin mark inside true = refl
+length-begin mark inside false = refl
+
 module _ (setting : Setting) where
   pub length-exit : (mark : Mark) (rest : Otherwise) (end : ℕ) → length (exit mark rest end) ≡ exit_size setting rest
   length-exit mark no_else end = refl
@@ -138,10 +143,10 @@ module _ (setting : Setting) where
   length-from inside place None = refl
   length-from inside place (Some e) = length-value inside place e
 
-  pub length-stored : (inside : Inside) (place : ℕ) (es : List Expression) → length (stored_code setting inside place es) ≡ stored_size setting es
-  length-stored inside place [] = refl
-  length-stored inside place (e ∷ rest) =
-      two (value_code setting inside place e) (line (raised 1 inside.mark) (I.Store inside.free) ∷ stored_code setting (keeping 1 inside) (place + expression_size setting e + 1) rest) (length-value inside place e) (ap suc (length-stored (keeping 1 inside) (place + expression_size setting e + 1) rest)) ∙ omega arith
+  pub length-stored : (inside : Inside) (own place : ℕ) (es : List Expression) → length (stored_code setting inside own place es) ≡ stored_size setting es
+  length-stored inside own place [] = refl
+  length-stored inside own place (e ∷ rest) =
+      two (value_code setting inside place e) (line (raised 1 inside.mark) (I.Store (element_slot (length rest) inside.free own)) ∷ stored_code setting (keeping 1 inside) own (place + expression_size setting e + 1) rest) (length-value inside place e) (ap suc (length-stored (keeping 1 inside) own (place + expression_size setting e + 1) rest)) ∙ omega arith
 
   mutual
     pub length-statement : (inside : Inside) (place : ℕ) (s : Statement) → length (statement_code setting inside place s) ≡ statement_size setting inside.mark.tries inside.loop.tries s
@@ -167,7 +172,8 @@ module _ (setting : Setting) where
     length-statement inside place (assign_repeated x e n) =
         two _ _ (length-value inside place e) (length-straight (raised 1 inside.mark) (I.Fill (slot_of setting x) (length_of setting x) ∷ []))
     length-statement inside place (assign_list x es) =
-        two _ _ (length-stored inside place es) (length-straight inside.mark (moved (length es) inside.free (slot_of setting x)) ∙ length-moved (length es) inside.free (slot_of setting x))
+        let first = slot_of setting x in
+        two _ _ (length-stored inside (first + (length es - 1)) place es) (length-straight inside.mark (moved (length es - 1) inside.free first) ∙ length-moved (length es - 1) inside.free first)
     length-statement inside place (if_then c b rest) =
         length-branch inside.mark _ _ _ _ _ (length-value inside place (asked Branch c)) (length-test (raised 1 inside.mark) (is_turned Branch c) _ _) (length-block inside (then_place setting place c) b) (length-exit inside.mark rest (end_place setting inside place c b rest)) (length-otherwise inside (else_place setting inside place c b rest) rest)
     length-statement inside place (while_do c b) =
@@ -182,7 +188,7 @@ module _ (setting : Setting) where
         let again = first + 10 + block_size setting inside.mark.tries inside.mark.tries b in
         five _ _ _ _ _ (length-from inside place from) (length-second inside (place + from_size setting from) to) (length-straight (raised 2 inside.mark) (for_begins setting inside x again)) (length-block (in_loop again (again + 4) (keeping 2 inside)) (first + 10) b) (length-straight inside.mark (for_goes_on inside (first + 3)))
     length-statement inside place (parallel b) =
-        two (straight inside.mark (I.Now ∷ I.Dup ∷ I.Store inside.free ∷ I.Store (inside.free + 1) ∷ [])) (parallel_code setting (keeping 2 inside) (place + 4) b) refl (length-parallel (keeping 2 inside) (place + 4) b)
+        two _ _ (length-begin inside.mark inside (has_second b)) (length-parallel (keeping 2 inside) (place + parallel_begin_size (has_second b)) b)
     length-statement inside place (sequential b) = length-block inside place b
     length-statement inside place (record_as name b) =
         let within = under (with_recording inside.mark) inside in

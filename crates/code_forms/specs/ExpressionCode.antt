@@ -68,7 +68,7 @@ module _ (setting : Setting) (free : ℕ) where
     expression_code mark place (binary op a b) =
         expression_code mark place a
         ++ expression_code (raised 1 mark) (place + expression_size setting a) b
-        ++ straight (raised 2 mark) (operator_instrs op (wrapped_type op (literal b) (type_of setting.scope (binary op a b))))
+        ++ straight (raised 2 mark) (operator_instrs op (wrapped_type op (literal a) (literal b) (type_of setting.scope (binary op a b))))
     expression_code mark place (compare op a b) =
         expression_code mark place a
         ++ expression_code (raised 1 mark) (place + expression_size setting a) b

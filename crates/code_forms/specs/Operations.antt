@@ -52,24 +52,24 @@ abbrev pub literal : Expression → Option ℕ
 literal (integer n) = Some n
 literal e = None
 
--- the type at which a remainder, or the bits that two numbers have in common, is wrapped: with an integer on the right it is at
--- least 0 and no greater than that, so nothing is left to do
+-- the type at which a result is wrapped that is at least 0: where an integer of the text bounds it, nothing is left to do
 abbrev pub bounded_type : (literal : Option ℕ) → ValueType → ValueType
 bounded_type (Some n) t = V.Int64
 bounded_type None t = t
 
--- the type at which an operator's result is wrapped, by the number of its right operand, if that is an integer
-abbrev pub wrapped_type : BinaryOperator → (literal : Option ℕ) → ValueType → ValueType
-wrapped_type B.Add literal t = t
-wrapped_type B.Subtract literal t = t
-wrapped_type B.Multiply literal t = t
-wrapped_type B.Divide literal t = t
-wrapped_type B.Remainder literal t = bounded_type literal t
-wrapped_type B.ShiftLeft literal t = t
-wrapped_type B.ShiftRight literal t = t
-wrapped_type B.BitAnd literal t = bounded_type literal t
-wrapped_type B.BitXor literal t = t
-wrapped_type B.BitOr literal t = t
+-- the type at which an operator's result is wrapped, by the numbers of those operands that are integers: a remainder isn't
+-- greater than the right one, nor are the bits that two numbers have in common than either
+abbrev pub wrapped_type : BinaryOperator → (left right : Option ℕ) → ValueType → ValueType
+wrapped_type B.Add left right t = t
+wrapped_type B.Subtract left right t = t
+wrapped_type B.Multiply left right t = t
+wrapped_type B.Divide left right t = t
+wrapped_type B.Remainder left right t = bounded_type right t
+wrapped_type B.ShiftLeft left right t = t
+wrapped_type B.ShiftRight left right t = t
+wrapped_type B.BitAnd left right t = bounded_type left (bounded_type right t)
+wrapped_type B.BitXor left right t = t
+wrapped_type B.BitOr left right t = t
 
 -- the number below 0 that `-` of an integer is: it has the integer's width, so nothing is left to do
 abbrev pub negated : UnaryOperator → (literal : Option ℕ) → Option ℕ

@@ -20,6 +20,16 @@ abbrev pub when : Bool → ℕ
 when true = 1
 when false = 0
 
+-- a block has a second statement
+abbrev pub has_second : Block → Bool
+has_second (line_then line s (line_then line' s' rest)) = true
+has_second b = false
+
+-- of what a parallel block keeps when it begins: the greatest end and, if there is a second statement, its start
+abbrev pub parallel_begin_size : (second : Bool) → ℕ
+parallel_begin_size true = 4
+parallel_begin_size false = 2
+
 -- of `-` and `~`, with so many for the operand and for what is done with it; one number where it is `-` of an integer
 abbrev pub unary_size : (negated : Option ℕ) → (operand own : ℕ) → ℕ
 unary_size (Some n) operand own = 1
@@ -49,7 +59,7 @@ module _ (setting : Setting) where
         unary_size (negated op (literal e)) (expression_size e) (length (unary_instrs op (type_of setting.scope e)))
     expression_size (binary op a b) =
         expression_size a
-        + (expression_size b + length (operator_instrs op (wrapped_type op (literal b) (type_of setting.scope (binary op a b)))))
+        + (expression_size b + length (operator_instrs op (wrapped_type op (literal a) (literal b) (type_of setting.scope (binary op a b)))))
     expression_size (compare op a b) = expression_size a + (expression_size b + length (comparison_instrs op))
     expression_size (negation e) = expression_size e + 2
     expression_size (conjunction a b) = expression_size a + (1 + (expression_size b + 2))
@@ -113,7 +123,7 @@ module _ (setting : Setting) where
         1 + (expression_size e + (length (operator_instrs (operator_of op) (type_of setting.scope (variable x))) + 1))
     statement_size tries kept (augment_element x i op e) = expression_size i + (3 + (expression_size e + 3))
     statement_size tries kept (assign_repeated x e n) = expression_size e + 1
-    statement_size tries kept (assign_list x es) = stored_size es + 2 * length es
+    statement_size tries kept (assign_list x es) = stored_size es + 2 * (length es - 1)
     statement_size tries kept (if_then c b rest) =
         expression_size (asked Branch c)
         + (test_size (is_turned Branch c) + (block_size tries kept b + (exit_size rest + otherwise_size tries kept rest)))
@@ -121,7 +131,7 @@ module _ (setting : Setting) where
         2 + (block_size tries tries b + (expression_size (asked LoopEnd c) + loop_size (is_turned LoopEnd c)))
     statement_size tries kept (for_range x from to b) =
         from_size from + (expression_size to + (10 + (block_size tries tries b + 4)))
-    statement_size tries kept (parallel b) = 4 + parallel_size tries kept b
+    statement_size tries kept (parallel b) = parallel_begin_size (has_second b) + parallel_size tries kept b
     statement_size tries kept (sequential b) = block_size tries kept b
     statement_size tries kept (record_as name b) = 1 + (block_size tries kept b + 1)
     statement_size tries kept (try_do b handlers) =

@@ -14,7 +14,7 @@ use Rattle.code_forms.specs.ExpressionCode.{expression_code, effect_code}
 use Rattle.code_forms.specs.Lines.{line, raised, with_handler, with_recording, straight, end_tries}
 use Rattle.code_forms.specs.Operations.{operator_instrs}
 use Rattle.code_forms.specs.Setting.{Setting, slot_of, length_of, index_of_text}
-use Rattle.code_forms.specs.Sizes.{expression_size, from_size, exit_size, statement_size, block_size, otherwise_size, handlers_size}
+use Rattle.code_forms.specs.Sizes.{has_second, parallel_begin_size, expression_size, from_size, exit_size, statement_size, block_size, otherwise_size, handlers_size}
 
 -- the enclosing loop: where it goes on, where it ends, and how many handlers there were before it
 pub record LoopPlaces : Type 0 where
@@ -84,6 +84,11 @@ abbrev pub moved : (count from to : ℕ) → List Instr
 moved zero from to = []
 moved (suc n) from to = I.Load from ∷ I.Store to ∷ moved n (from + 1) (to + 1)
 
+-- the slot where an element of a list is stored, with so many behind it: a free one, but the last goes to its place in the array
+abbrev pub element_slot : (left free last : ℕ) → ℕ
+element_slot zero free last = last
+element_slot (suc n) free last = free
+
 -- the end of a branch, which goes past the branches that follow
 abbrev pub exit : Mark → Otherwise → (end : ℕ) → List CodeLine
 exit mark no_else end = []
@@ -132,6 +137,11 @@ for_begins setting inside x again =
 abbrev pub for_goes_on : Inside → (turn : ℕ) → List Instr
 for_goes_on inside turn = I.Load (inside.free + 1) ∷ I.Load inside.free ∷ I.Le ∷ I.JumpZero turn ∷ []
 
+-- a parallel block begins: the cursor is kept as the greatest end so far and, if there is a second statement, as its start too
+abbrev pub parallel_begins : Inside → (second : Bool) → List Instr
+parallel_begins inside true = I.Now ∷ I.Dup ∷ I.Store inside.free ∷ I.Store (inside.free + 1) ∷ []
+parallel_begins inside false = I.Now ∷ I.Store (inside.free + 1) ∷ []
+
 -- a statement of a parallel block has ended, whose end counts where it is the greatest: the next one begins at the start, or the
 -- block ends at the greatest end
 abbrev pub next_begins : Inside → List Instr
@@ -144,8 +154,8 @@ next_begins inside =
     ∷ I.At
     ∷ []
 
-abbrev pub block_ends : Inside → List Instr
-block_ends inside = I.Load (inside.free - 1) ∷ I.Now ∷ I.Max ∷ I.At ∷ []
+abbrev pub parallel_ends : Inside → List Instr
+parallel_ends inside = I.Load (inside.free - 1) ∷ I.Now ∷ I.Max ∷ I.At ∷ []
 
 module _ (setting : Setting) where
   -- an expression in a statement
@@ -167,13 +177,13 @@ module _ (setting : Setting) where
   from_code inside place None = line inside.mark (I.Const (pos 0)) ∷ []
   from_code inside place (Some e) = value_code inside place e
 
-  -- some expressions, each of which is stored in a free slot
-  abbrev pub stored_code : Inside → (place : ℕ) → List Expression → List CodeLine
-  stored_code inside place [] = []
-  stored_code inside place (e ∷ rest) =
+  -- some expressions, each of which is stored in a free slot, but the last one in its place in the array
+  abbrev pub stored_code : Inside → (last place : ℕ) → List Expression → List CodeLine
+  stored_code inside last place [] = []
+  stored_code inside last place (e ∷ rest) =
       value_code inside place e
-      ++ line (raised 1 inside.mark) (I.Store inside.free)
-      ∷ stored_code (keeping 1 inside) (place + expression_size setting e + 1) rest
+      ++ line (raised 1 inside.mark) (I.Store (element_slot (length rest) inside.free last))
+      ∷ stored_code (keeping 1 inside) last (place + expression_size setting e + 1) rest
 
   abbrev mutual
     -- a statement at a place: it leaves nothing on the operands
@@ -212,7 +222,8 @@ module _ (setting : Setting) where
         value_code inside place e
         ++ straight (raised 1 inside.mark) (I.Fill (slot_of setting x) (length_of setting x) ∷ [])
     statement_code inside place (assign_list x es) =
-        stored_code inside place es ++ straight inside.mark (moved (length es) inside.free (slot_of setting x))
+        stored_code inside (slot_of setting x + (length es - 1)) place es
+        ++ straight inside.mark (moved (length es - 1) inside.free (slot_of setting x))
     statement_code inside place (if_then c b rest) =
         branch_lines
         inside.mark
@@ -261,8 +272,8 @@ module _ (setting : Setting) where
         b
         ++ straight inside.mark (for_goes_on inside (turns_place setting place from to + 3))
     statement_code inside place (parallel b) =
-        straight inside.mark (I.Now ∷ I.Dup ∷ I.Store inside.free ∷ I.Store (inside.free + 1) ∷ [])
-        ++ parallel_code (keeping 2 inside) (place + 4) b
+        straight inside.mark (parallel_begins inside (has_second b))
+        ++ parallel_code (keeping 2 inside) (place + parallel_begin_size (has_second b)) b
     statement_code inside place (sequential b) = block_code inside place b
     statement_code inside place (record_as name b) =
         line inside.mark (I.Record (index_of_text setting name))
@@ -301,7 +312,8 @@ module _ (setting : Setting) where
         statement_code inside place s
         ++ block_code inside (place + statement_size setting inside.mark.tries inside.loop.tries s) rest
 
-    -- the statements of a parallel block, whose start and greatest end are kept in the last two slots in use
+    -- the statements of a parallel block: its greatest end is kept in the last slot in use and, if there is a second one, its start
+    -- in the slot before that
     pub parallel_code : Inside → (place : ℕ) → Block → List CodeLine
     parallel_code inside place done = []
     parallel_code inside place (line_then line s rest) =
@@ -310,7 +322,7 @@ module _ (setting : Setting) where
 
     -- those behind one of them: its end counts where it is the greatest, and the next one begins at the start
     pub others_code : Inside → (place : ℕ) → Block → List CodeLine
-    others_code inside place done = straight inside.mark (block_ends inside)
+    others_code inside place done = straight inside.mark (parallel_ends inside)
     others_code inside place (line_then line s rest) =
         straight inside.mark (next_begins inside)
         ++ statement_code inside (place + 6) s

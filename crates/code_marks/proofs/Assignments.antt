@@ -1,5 +1,5 @@
 -- The code of assignments is marked rightly.
-use Rattle.std.proofs.Common.{◌≡◌, ℕ, zero, suc, ◌+◌, ◌*◌, ◌<◌, ◌≤◌, List, [], ◌∷◌, ◌++◌, length, refl, ◌∙◌, ap, arith, length-append}
+use Rattle.std.proofs.Common.{◌≡◌, ℕ, zero, suc, ◌+◌, ◌-◌, ◌*◌, ◌<◌, ◌≤◌, List, [], ◌∷◌, ◌++◌, length, refl, ◌∙◌, ap, arith, length-append}
 use Rattle.std.specs.Prelude.{Bool, true}
 use Rattle.std.proofs.lemmas.Bool.{false≢true}
 use Rattle.kern_syntax.specs.declared.statement.Augment.{Augment}
@@ -19,7 +19,7 @@ use Rattle.code_forms.specs.Operations.{operator_instrs}
 use Rattle.code_forms.specs.Setting as C
 use Rattle.code_forms.specs.Setting.{size_of, slot_of, length_in, length_of}
 use Rattle.code_forms.specs.Sizes.{expression_size, stored_size, statement_size}
-use Rattle.code_forms.specs.StatementCode.{Inside, keeping, moved, value_code, second_code, stored_code, statement_code}
+use Rattle.code_forms.specs.StatementCode.{Inside, keeping, moved, element_slot, value_code, second_code, stored_code, statement_code}
 use Rattle.code_forms.specs.Suited.{is_scalar, IsScalarName, IsArrayName, IsSuited, EachSuited}
 use Rattle.code_forms.specs.Texts.{expression_texts, list_texts}
 use Rattle.code_forms.proofs.Lengths.{length-expression}
@@ -39,6 +39,11 @@ scalar_size (V.Array n) s = absurd (false≢true s)
 -- the slot of a name that is no array
 pub scalar_slot : (code : Code) (f : CodeFunction) (cs : C.Setting) (plain : List Bytes) → Held code f cs plain → (x : Bytes) → IsScalarName cs x → slot_of cs x < f.slots
 scalar_slot code f cs plain held x is = has_slot code f cs plain held x is.0 is.1 (scalar_size is.0 is.2)
+
+-- an element's slot is there where the free one and its own are
+element_below : (left free own slots : ℕ) → free < slots → own < slots → element_slot left free own < slots
+element_below zero free own slots f o = o
+element_below (suc n) free own slots f o = f
 
 module _ (code : Code) (k : ℕ) (f : CodeFunction) (cs : C.Setting) (plain : List Bytes) (held : Held code f cs plain) (d : Bool) where
   -- numbers go from some slots to others
@@ -117,23 +122,25 @@ module _ (code : Code) (k : ℕ) (f : CodeFunction) (cs : C.Setting) (plain : Li
         let middle : StandIn code k place (a ++ b ++ c) → Part code k f place p mark (raised 2 mark) = in_turn code k f (a ++ b) c lb (omega arith) front pc in
         part_to code k f (omega (arith, le)) refl (in_turn code k f (a ++ b ++ c) c' lc (omega arith) middle pe s)
 
-  -- each of some expressions is stored in a free slot
-  stored_part : (inside : Inside) (o : IsOutside f d inside.mark) (es : List Expression) (place : ℕ) → inside.free + (length es + 1) ≤ f.slots → EachSuited cs plain d es → HasTexts cs (list_texts es) → StandIn code k place (stored_code cs inside place es) → Part code k f place (place + stored_size cs es) inside.mark inside.mark
-  stored_part inside o [] place room r t s = part_to code k f (omega arith) refl (nothing code k f place inside.mark)
-  stored_part inside o (e ∷ rest) place room r t s =
+  -- each of some expressions is stored in a free slot, but the last one in its own
+  stored_part : (inside : Inside) (o : IsOutside f d inside.mark) (own : ℕ) (es : List Expression) (place : ℕ) → inside.free + (length es + 1) ≤ f.slots → (1 ≤ length es → own < f.slots) → EachSuited cs plain d es → HasTexts cs (list_texts es) → StandIn code k place (stored_code cs inside own place es) → Part code k f place (place + stored_size cs es) inside.mark inside.mark
+  stored_part inside o own [] place room last r t s = part_to code k f (omega arith) refl (nothing code k f place inside.mark)
+  stored_part inside o own (e ∷ rest) place room last r t s =
       let n = expression_size cs e in
       let a = value_code cs inside place e in
-      let b = stored_code cs (keeping 1 inside) (place + n + 1) rest in
+      let slot = element_slot (length rest) inside.free own in
+      let b = stored_code cs (keeping 1 inside) own (place + n + 1) rest in
       let first : StandIn code k place a → Part code k f place (place + n) inside.mark (raised 1 inside.mark) = λ s'. expression_part code k f cs plain held inside.free (omega (arith, room)) d e r.0 (texts_front cs (expression_texts e) (list_texts rest) t) inside.mark o place s' in
-      let others : StandIn code k (place + n + 1) b → Part code k f (place + n + 1) (place + n + 1 + stored_size cs rest) inside.mark inside.mark = stored_part (keeping 1 inside) o rest (place + n + 1) (omega (arith, room)) r.1 (texts_back cs (expression_texts e) (list_texts rest) t) in
-      let kept : StandIn code k (place + n) (line (raised 1 inside.mark) (I.Store inside.free) ∷ b) → Part code k f (place + n) (place + n + 1 + stored_size cs rest) (raised 1 inside.mark) inside.mark = λ s'. in_front code k f (raised 1 inside.mark) (I.Store inside.free) b (simple code k f (I.Store inside.free) refl (omega (arith, room)) (omega arith)) (λ s''. part_from code k f refl (same_mark _ _ (omega arith) refl refl) (others s'')) s' in
-      part_to code k f (omega arith) refl (in_turn code k f a (line (raised 1 inside.mark) (I.Store inside.free) ∷ b) (length-expression cs inside.free inside.mark place e) refl first kept s)
+      let others : StandIn code k (place + n + 1) b → Part code k f (place + n + 1) (place + n + 1 + stored_size cs rest) inside.mark inside.mark = stored_part (keeping 1 inside) o own rest (place + n + 1) (omega (arith, room)) (λ more. last (omega arith)) r.1 (texts_back cs (expression_texts e) (list_texts rest) t) in
+      let kept : StandIn code k (place + n) (line (raised 1 inside.mark) (I.Store slot) ∷ b) → Part code k f (place + n) (place + n + 1 + stored_size cs rest) (raised 1 inside.mark) inside.mark = λ s'. in_front code k f (raised 1 inside.mark) (I.Store slot) b (simple code k f (I.Store slot) refl (element_below (length rest) inside.free own f.slots (omega (arith, room)) (last (omega arith))) (omega arith)) (λ s''. part_from code k f refl (same_mark _ _ (omega arith) refl refl) (others s'')) s' in
+      part_to code k f (omega arith) refl (in_turn code k f a (line (raised 1 inside.mark) (I.Store slot) ∷ b) (length-expression cs inside.free inside.mark place e) refl first kept s)
 
-  pub assign_list_part : (inside : Inside) (o : IsOutside f d inside.mark) (place : ℕ) (x : Bytes) (es : List Expression) → inside.free + (length es + 1) ≤ f.slots → IsArrayName cs x (length es) × EachSuited cs plain d es → HasTexts cs (list_texts es) → StandIn code k place (statement_code cs inside place (assign_list x es)) → Part code k f place (place + (stored_size cs es + 2 * length es)) inside.mark inside.mark
+  pub assign_list_part : (inside : Inside) (o : IsOutside f d inside.mark) (place : ℕ) (x : Bytes) (es : List Expression) → inside.free + (length es + 1) ≤ f.slots → IsArrayName cs x (length es) × EachSuited cs plain d es → HasTexts cs (list_texts es) → StandIn code k place (statement_code cs inside place (assign_list x es)) → Part code k f place (place + (stored_size cs es + 2 * (length es - 1))) inside.mark inside.mark
   assign_list_part inside o place x es room r t s =
       let n = stored_size cs es in
-      let is = moved (length es) inside.free (slot_of cs x) in
+      let own = slot_of cs x + (length es - 1) in
+      let is = moved (length es - 1) inside.free (slot_of cs x) in
       let array = has_array code f cs plain held x (length es) r.0 in
       let long : length_of cs x ≡ length es = ap length_in r.0 in
-      let g = moves (length es) inside.free (slot_of cs x) (place + n) inside.mark (omega (arith, room)) (omega (arith, array.1, long)) in
-      part_to code k f (omega (arith, length-moved (length es) inside.free (slot_of cs x))) refl (in_turn code k f (stored_code cs inside place es) (straight inside.mark is) (length-stored cs inside place es) refl (stored_part inside o es place room r.1 t) (λ s'. straight_to code k f (place + n) inside.mark inside.mark is s' g) s)
+      let g = moves (length es - 1) inside.free (slot_of cs x) (place + n) inside.mark (omega (arith, room)) (omega (arith, array.1, long)) in
+      part_to code k f (omega (arith, length-moved (length es - 1) inside.free (slot_of cs x))) refl (in_turn code k f (stored_code cs inside own place es) (straight inside.mark is) (length-stored cs inside own place es) refl (stored_part inside o own es place room (λ more. omega (arith, array.1, long, more)) r.1 t) (λ s'. straight_to code k f (place + n) inside.mark inside.mark is s' g) s)

@@ -183,7 +183,7 @@ module _ (code : Code) (k : ℕ) (f : CodeFunction) (cs : C.Setting) (plain : Li
     expression_part (unary op e) r t mark o place s =
         unary_part op e (negated op (literal e)) place mark (expression_part e r t mark o place) s
     expression_part (binary op x y) r t mark o place s =
-        let t' = wrapped_type op (literal y) (type_of cs.scope (binary op x y)) in
+        let t' = wrapped_type op (literal x) (literal y) (type_of cs.scope (binary op x y)) in
         let g = operates code k f op t' (place + expression_size cs x + expression_size cs y) (raised 2 mark) (omega arith) in
         two_operands x y place mark (raised 1 mark) (operator_instrs op t') (expression_part x r.0 (in_front cs (expression_texts x) (expression_texts y) t) mark o place) (expression_part y r.1 (in_back cs (expression_texts x) (expression_texts y) t) (raised 1 mark) o (place + expression_size cs x)) (g.0, g.1 ∙ same_mark _ _ (omega arith) refl refl) s
     expression_part (compare op x y) r t mark o place s =

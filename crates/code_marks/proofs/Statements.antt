@@ -13,7 +13,7 @@ use Rattle.code_forms.specs.Conditions.{asked}
 use Rattle.code_forms.specs.Lines.{raised, with_handler, with_recording}
 use Rattle.code_forms.specs.Programs.{statement_slots, block_slots, otherwise_slots, handlers_slots}
 use Rattle.code_forms.specs.Setting as C
-use Rattle.code_forms.specs.Sizes.{expression_size, from_size, statement_size, block_size, parallel_size, others_size, otherwise_size, handlers_size}
+use Rattle.code_forms.specs.Sizes.{has_second, parallel_begin_size, expression_size, from_size, statement_size, block_size, parallel_size, others_size, otherwise_size, handlers_size}
 use Rattle.code_forms.specs.StatementCode.{Inside, keeping, in_loop, under, then_place, else_place, value_code, second_code, from_code, statement_code, block_code, parallel_code, others_code, otherwise_code, handlers_code}
 use Rattle.code_forms.specs.Suited.{IsSuited, IfThereSuited, IsSuitedStatement, IsSuitedBlock, IsSuitedOtherwise, AreSuitedHandlers}
 use Rattle.code_forms.specs.Texts.{expression_texts, option_texts, statement_texts, block_texts, otherwise_texts, handler_texts}
@@ -100,7 +100,7 @@ module _ (code : Code) (k : ℕ) (f : CodeFunction) (cs : C.Setting) (plain : Li
         (λ at_again at_past. block_part b true r d u.3 (texts_back cs (option_texts from ++ expression_texts to) (block_texts b) t) (in_loop p (p + 4) (keeping 2 inside)) (turns code k f cs inside x from to b place + 10) (omega (arith, room)) (in_a_loop code k f p (p + 4) l r d (keeping 2 inside) _ _ at_again at_past (omega arith) (omega arith) (with_slots code k f 2 l r d inside _ g)))
         s
     statement_part (parallel b) l r d u t inside place room g s =
-        parallel_part code k f cs inside b place (omega (arith, room, some_slots b)) (parallel_lines b d u t (keeping 2 inside) (place + 4) (omega arith) (omega (arith, room)) (in_parallel code k f l r d inside _ _ g)) s
+        parallel_part code k f cs inside b place (omega (arith, room, some_slots b)) (parallel_lines b d u t (keeping 2 inside) (place + parallel_begin_size (has_second b)) (omega arith) (omega (arith, room)) (in_parallel code k f l r d inside _ _ g)) s
     statement_part (sequential b) l r d u t inside place room g s = block_part b l r d u t inside place room g s
     statement_part (record_as name b) l r d u t inside place room g s =
         record_part code k f cs inside name b place (g.outside u.0) (has_name code f cs plain held name (t (omega arith))) (block_part b false false true u.1 (λ some. t (omega (arith, some))) (under (with_recording inside.mark) inside) (place + 1) room (in_a_record code k f l r d inside _ _ g)) s

@@ -160,7 +160,7 @@ module _ (given : List Reply) (code : Code) (cs : C.Setting) (plain : List Bytes
     follows_expression (unary op e) r t mark place s setting at =
         unary_or_number setting mark place op e (negated op (literal e)) refl r (λ se. follows_expression e r t mark place se setting at) s
     follows_expression (binary op a b) r t mark place s setting at =
-        let ty = wrapped_type op (literal b) (type_of cs.scope (binary op a b)) in
+        let ty = wrapped_type op (literal a) (literal b) (type_of cs.scope (binary op a b)) in
         let na = expression_size cs a in
         let p = place + na + expression_size cs b in
         let past : p + 1 + length (wrapping ty) ≡ p + length (operator_instrs op ty) = omega arith in

@@ -25,7 +25,7 @@ use Rattle.code_forms.specs.ExpressionCode.{numbers_in}
 use Rattle.code_forms.specs.Operations.{wrapping, unary_instrs, literal, negated, comparison_instrs, builtin_instrs, call_instrs, call_has_value, takes_numbers, array_argument, operation_instrs, method_instrs, method_has_value, wrapped_type}
 use Rattle.code_forms.specs.Programs.{setting_of, plain_names, function_code, function_size, functions_code, code_of_program}
 use Rattle.code_forms.specs.Texts.{texts_of}
-use Rattle.code_forms.specs.Sizes.{unless, when, unary_size, expression_size, arguments_size, effect_size, stored_size, return_size, from_size, exit_size, statement_size, block_size, parallel_size, others_size, otherwise_size, handlers_size}
+use Rattle.code_forms.specs.Sizes.{unless, when, has_second, parallel_begin_size, unary_size, expression_size, arguments_size, effect_size, stored_size, return_size, from_size, exit_size, statement_size, block_size, parallel_size, others_size, otherwise_size, handlers_size}
 use Rattle.code_forms.specs.Suited.{MethodHasWhatItTakes, operation_numbers, IsSuited, AreSuited, IsSuitedAlone, IfThereSuited, EachSuited, IsSuitedStatement, IsSuitedBlock, IsSuitedOtherwise, AreSuitedHandlers}
 use Rattle.code_forms.proofs.Asked.{asked_short, asked_looping_short}
 use Rattle.code_forms.proofs.StatementLengths.{functions_have_their_size}
@@ -70,6 +70,10 @@ exit_short : (cs : C.Setting) (rest : Otherwise) → exit_size cs rest ≤ 1
 exit_short cs no_else = omega arith
 exit_short cs (else_do b) = omega arith
 exit_short cs (elif_then ln c b rest) = omega arith
+
+parallel_begin_short : (second : Bool) → parallel_begin_size second ≤ 4
+parallel_begin_short true = omega arith
+parallel_begin_short false = omega arith
 
 builtin_short : (cs : C.Setting) (text : Bytes) (array : Option Bytes) (b : Builtin) → length (builtin_instrs cs text array b) ≤ 1
 builtin_short cs text array B.NowMu = omega arith
@@ -128,7 +132,7 @@ module _ (cs : C.Setting) (plain : List Bytes) where
     expression_short d (group e) r = omega (arith, expression_short d e r)
     expression_short d (unary op e) r =
         omega (arith, expression_short d e r, unary_short op (type_of cs.scope e), negated_short (negated op (literal e)) (expression_size cs e) (length (unary_instrs op (type_of cs.scope e))))
-    expression_short d (binary op a b) r = omega (arith, expression_short d a r.0, expression_short d b r.1, wrapping_short (wrapped_type op (literal b) (type_of cs.scope (binary op a b))))
+    expression_short d (binary op a b) r = omega (arith, expression_short d a r.0, expression_short d b r.1, wrapping_short (wrapped_type op (literal a) (literal b) (type_of cs.scope (binary op a b))))
     expression_short d (compare op a b) r = omega (arith, expression_short d a r.0, expression_short d b r.1, comparison_short op)
     expression_short d (negation e) r = omega (arith, expression_short d e r)
     expression_short d (conjunction a b) r = omega (arith, expression_short d a r.0, expression_short d b r.1)
@@ -207,7 +211,7 @@ module _ (cs : C.Setting) (plain : List Bytes) where
         omega (arith, six, from_short d from r.1, expression_short d to r.2, block_short true m d tries tries k.0 b r.3 k.2.1 (omega (arith, t, k.1)))
     statement_short l m d tries kept room more (parallel b) r g t six x y =
         let k = one_deeper room _ g in
-        omega (arith, six, parallel_short d tries kept k.0 b r k.2.1 (omega (arith, t, k.1)))
+        omega (arith, six, parallel_begin_short (has_second b), parallel_short d tries kept k.0 b r k.2.1 (omega (arith, t, k.1)))
     statement_short l m d tries kept room more (sequential b) r g t six x y =
         let k = one_deeper room _ g in
         omega (arith, six, block_short l m d tries kept k.0 b r k.2.1 (omega (arith, t, k.1)))

@@ -3,7 +3,7 @@ use Rattle.std.proofs.Common.{◌≡◌, ℕ, ◌+◌, ◌≤◌, List, [], ◌�
 use Rattle.std.specs.Prelude.{Bool, true, false, ⊤}
 use Rattle.rtio_types.specs.declared.request.Reply.{Reply}
 use Rattle.kern_syntax.specs.Tree as T
-use Rattle.kern_syntax.specs.Tree.{Bytes, Expression, Statement, pass, assign, assign_element, augment, augment_element, assign_repeated, assign_list, evaluate, while_do, for_range, sequential, parallel, record_as, try_do, if_then, Block, done, line_then, Otherwise, no_else, else_do, elif_then, Handlers, no_handler, except_then}
+use Rattle.kern_syntax.specs.Tree.{Bytes, Statement, pass, assign, assign_element, augment, augment_element, assign_repeated, assign_list, evaluate, while_do, for_range, sequential, parallel, record_as, try_do, if_then, Block, done, line_then, Otherwise, no_else, else_do, elif_then, Handlers, no_handler, except_then}
 use Rattle.timeline_sem.specs.Actions.{Action}
 use Rattle.timeline_sem.specs.Expressions.{Callee}
 use Rattle.timeline_sem.specs.Statements.{statement, block, handler, otherwise}
@@ -103,7 +103,7 @@ module _ (given : List Reply) (code : Code) (cs : C.Setting) (plain : List Bytes
         follows_first given code cs plain callee room known most l may d inside place setting g ln st rest (λ a b p lines. follows_statement st false false d r.0 (in_front cs.texts (statement_texts st) (block_texts rest) t) (keeping 2 inside) p lines most (deeper (a ∷ b ∷ []) setting) (placed_parallel cs room l may d inside setting a b g) (omega (arith, limit, length-append setting.temporaries (a ∷ b ∷ [])))) (λ p lines. follows_others rest l may d r.1 (in_back cs.texts (statement_texts st) (block_texts rest) t) inside p lines most setting g (omega (arith, limit))) place s
 
     pub follows_others : (b : Block) (l may d : Bool) → IsSuitedBlock cs plain false false d b → TextsIn cs.texts (block_texts b) → (inside : Inside) (place : ℕ) → LinesStand code.lines place (others_code cs (keeping 2 inside) place b) → (most : ℕ) (setting : Setting) (g : Placed cs room l may d inside setting) → length setting.temporaries + (2 + block_slots b) ≤ setting.limit → InOthers given code cs plain callee room known most l may d inside place setting g place b
-    follows_others done l may d r t inside place s most setting g limit = follows_no_more given code cs plain callee room known most l may d inside place setting g place s
+    follows_others done l may d r t inside place s most setting g limit = λ start greatest f h. follows_no_more given code cs plain callee room known most l may d inside place setting g place s start start greatest h
     follows_others (line_then ln st rest) l may d r t inside place s most setting g limit =
         follows_line given code cs plain callee room known most l may d inside place setting g ln st rest (λ a b p lines. follows_statement st false false d r.0 (in_front cs.texts (statement_texts st) (block_texts rest) t) (keeping 2 inside) p lines most (deeper (a ∷ b ∷ []) setting) (placed_parallel cs room l may d inside setting a b g) (omega (arith, limit, length-append setting.temporaries (a ∷ b ∷ [])))) (λ p lines. follows_others rest l may d r.1 (in_back cs.texts (statement_texts st) (block_texts rest) t) inside p lines most setting g (omega (arith, limit))) place s
 

@@ -149,8 +149,8 @@ module _ (setting : Setting) (fits : SettingFits setting) (free : ℕ) (free_fit
     expression_ranged mark place (unary op e) s r p =
         unary_ranged mark place op e (negated op (literal e)) refl s r p (λ less. expression_ranged mark place e s (less_roomy mark (max (expression_height e) 14) (expression_height e) r (omega arith)) less)
     expression_ranged mark place (binary op a b) s r p =
-        let own = operator_instrs op (wrapped_type op (literal b) (type_of setting.scope (binary op a b))) in
-        let few = operator_short op (wrapped_type op (literal b) (type_of setting.scope (binary op a b))) in
+        let own = operator_instrs op (wrapped_type op (literal a) (literal b) (type_of setting.scope (binary op a b))) in
+        let few = operator_short op (wrapped_type op (literal a) (literal b) (type_of setting.scope (binary op a b))) in
         let h = max (expression_height a) (max (1 + expression_height b) 14) in
         let first = expression_code setting free mark place a in
         let second = expression_code setting free (raised 1 mark) (place + expression_size setting a) b in
@@ -163,7 +163,7 @@ module _ (setting : Setting) (fits : SettingFits setting) (free : ℕ) (free_fit
         r
         (omega arith)
         (omega (arith, few))
-        (operator_fits op (wrapped_type op (literal b) (type_of setting.scope (binary op a b))))
+        (operator_fits op (wrapped_type op (literal a) (literal b) (type_of setting.scope (binary op a b))))
         (expression_ranged mark place a s.0 (less_roomy mark h (expression_height a) r (omega arith)) (omega (arith, p)))
         (expression_ranged (raised 1 mark) (place + expression_size setting a) b s.1 (roomy_above mark 1 h (expression_height b) r (omega arith)) (omega (arith, p)))
     expression_ranged mark place (compare op a b) s r p =

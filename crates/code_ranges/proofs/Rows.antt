@@ -11,7 +11,7 @@ use Rattle.core_isa.specs.Marks.{after}
 use Rattle.core_image.specs.Ranges.{is_short, is_integer}
 use Rattle.code_forms.specs.Conditions.{test_instrs, test_size, loop_instrs}
 use Rattle.code_forms.specs.Lines.{line, raised, straight}
-use Rattle.code_forms.specs.StatementCode.{LoopPlaces, Inside, code_of_name, leaving, returning, no_result, no_value, result_mark, moved, exit, branch_lines}
+use Rattle.code_forms.specs.StatementCode.{LoopPlaces, Inside, code_of_name, leaving, returning, no_result, no_value, result_mark, moved, element_slot, exit, branch_lines}
 use Rattle.code_ranges.specs.ReadyStatements.{HasSpace}
 use Rattle.code_ranges.proofs.Straight.{LinesFit, no_lines, one_more, both_fit, MarkFits, InstrFits, InstrsFit, line_fits, single, straight_fits, ended_fits}
 
@@ -98,6 +98,11 @@ branch_fits mark test condition body leave rest t c b l r =
     (both_fit (condition ++ tests) body (both_fit condition tests c t) b)
     l)
     r
+
+-- a slot of an array's list fits where the free one and its own do
+pub element_short : (left free own : ℕ) → is_short free ≡ true → is_short own ≡ true → is_short (element_slot left free own) ≡ true
+element_short zero free own f o = o
+element_short (suc n) free own f o = f
 
 -- numbers that go from slots to others
 pub moved_fits : (n from to : ℕ) (mark : Mark) → mark.height ≡ 0 → mark.tries < 100 → mark.rec ≤ 100 → from + n < 2 ^ 16 → to + n < 2 ^ 16 → LinesFit (straight mark (moved n from to))

@@ -1,8 +1,8 @@
 -- The code of a statement is in its ranges where it fits.
 use Rattle.std.proofs.Common.{◌≡◌, ℕ, ◌+◌, ◌-◌, ◌<◌, ◌^◌, List, [], ◌∷◌, ◌++◌, length, Option, Some, None, refl, arith, length-append}
-use Rattle.std.specs.Prelude.{true, pos}
+use Rattle.std.specs.Prelude.{Bool, true, false, pos}
 use Rattle.kern_syntax.specs.Tree as T
-use Rattle.kern_syntax.specs.Tree.{Bytes, Expression, variable, Statement, pass, evaluate, assign, assign_element, augment, augment_element, assign_repeated, assign_list, if_then, while_do, for_range, parallel, sequential, record_as, try_do, Block, done, line_then, Otherwise, no_else, else_do, elif_then, Handlers, no_handler, except_then}
+use Rattle.kern_syntax.specs.Tree.{Expression, variable, Statement, pass, evaluate, assign, assign_element, augment, augment_element, assign_repeated, assign_list, if_then, while_do, for_range, parallel, sequential, record_as, try_do, Block, done, line_then, Otherwise, no_else, else_do, elif_then, Handlers, no_handler, except_then}
 use Rattle.kern_calls.specs.declared.types.ValueType.TheVariants.{Int64}
 use Rattle.kern_calls.specs.Types.{type_of}
 use Rattle.timeline_sem.specs.Statements.{operator_of}
@@ -15,8 +15,8 @@ use Rattle.code_forms.specs.ExpressionCode.{expression_code}
 use Rattle.code_forms.specs.Lines.{line, raised, with_handler, with_recording, straight}
 use Rattle.code_forms.specs.Operations.{operator_instrs}
 use Rattle.code_forms.specs.Setting.{Setting, slot_of, length_of, index_of_text}
-use Rattle.code_forms.specs.Sizes.{expression_size, stored_size, return_size, from_size, statement_size, block_size, parallel_size, others_size, otherwise_size, handlers_size}
-use Rattle.code_forms.specs.StatementCode.{Inside, keeping, in_loop, under, code_of_name, returning, no_value, result_mark, moved, exit, test_place, then_place, else_place, end_place, turns_place, for_begins, for_goes_on, next_begins, block_ends, value_code, second_code, return_code, from_code, stored_code, statement_code, block_code, parallel_code, others_code, otherwise_code, handlers_code}
+use Rattle.code_forms.specs.Sizes.{expression_size, stored_size, return_size, from_size, has_second, parallel_begin_size, statement_size, block_size, parallel_size, others_size, otherwise_size, handlers_size}
+use Rattle.code_forms.specs.StatementCode.{Inside, keeping, in_loop, under, code_of_name, returning, no_value, result_mark, moved, element_slot, exit, test_place, then_place, else_place, end_place, turns_place, for_begins, for_goes_on, parallel_begins, next_begins, parallel_ends, value_code, second_code, return_code, from_code, stored_code, statement_code, block_code, parallel_code, others_code, otherwise_code, handlers_code}
 use Rattle.code_ranges.specs.Fits.{SettingFits}
 use Rattle.code_ranges.specs.Ready.{ExpressionFits}
 use Rattle.code_ranges.specs.ReadyStatements.{HasSpace, FitsIfThere, EachFits, StatementFits, BlockFits, OtherwiseFits, HandlersFit}
@@ -24,7 +24,7 @@ use Rattle.code_ranges.proofs.Straight.{LinesFit, no_lines, one_more, both_fit, 
 use Rattle.code_ranges.proofs.Operators.{operator_fits, operator_short, slot_fits, two_fit, text_fits}
 use Rattle.code_ranges.proofs.Asked.{asked_fits}
 use Rattle.code_ranges.proofs.ExpressionRanges.{expression_ranged, effect_ranged}
-use Rattle.code_ranges.proofs.Rows.{LoopFits, space_mark, bare_mark, space_row, bare_row, short_is, free_is, place_is, leaving_fits, returning_fits, no_result_fits, no_value_fits, exit_fits, test_fits, test_short, loop_fits, loop_short, branch_fits, moved_fits, name_fits}
+use Rattle.code_ranges.proofs.Rows.{LoopFits, space_mark, bare_mark, space_row, bare_row, short_is, free_is, place_is, leaving_fits, returning_fits, no_result_fits, no_value_fits, exit_fits, test_fits, test_short, loop_fits, loop_short, branch_fits, moved_fits, element_short, name_fits}
 
 module _ (setting : Setting) (sound : SettingFits setting) where
   value_ranged : (mark : Mark) (free place : ℕ) (e : Expression) → is_short free ≡ true → ExpressionFits mark e → place + expression_size setting e < 2 ^ 32 → LinesFit (expression_code setting free mark place e)
@@ -44,20 +44,29 @@ module _ (setting : Setting) (sound : SettingFits setting) where
   from_ranged inside place None s f p = single inside.mark (I.Const (pos 0)) (bare_mark inside.mark inside.free s) refl
   from_ranged inside place (Some e) s f p = value_ranged inside.mark inside.free place e (free_is inside.mark inside.free s) f p
 
-  stored_ranged : (inside : Inside) (first place : ℕ) (es : List Expression) → HasSpace inside.mark first → EachFits inside.mark es → inside.free + length es < 2 ^ 16 → place + stored_size setting es < 2 ^ 32 → LinesFit (stored_code setting inside place es)
-  stored_ranged inside first place [] s f room p = no_lines
-  stored_ranged inside first place (e ∷ es) s f room p =
+  begin_ranged : (inside : Inside) (second : Bool) → HasSpace inside.mark inside.free → LinesFit (straight inside.mark (parallel_begins inside second))
+  begin_ranged inside true s =
+      let greatest = short_is (inside.free + 1) (omega (arith, s.slots)) in
+      bare_row inside.mark inside.free (parallel_begins inside true) s (omega arith) (refl, (refl, (free_is inside.mark inside.free s, (greatest, tt))))
+  begin_ranged inside false s =
+      let greatest = short_is (inside.free + 1) (omega (arith, s.slots)) in
+      bare_row inside.mark inside.free (parallel_begins inside false) s (omega arith) (refl, (greatest, tt))
+
+  stored_ranged : (inside : Inside) (first own place : ℕ) (es : List Expression) → HasSpace inside.mark first → EachFits inside.mark es → inside.free + length es < 2 ^ 16 → own < 2 ^ 16 → place + stored_size setting es < 2 ^ 32 → LinesFit (stored_code setting inside own place es)
+  stored_ranged inside first own place [] s f room last p = no_lines
+  stored_ranged inside first own place (e ∷ es) s f room last p =
       let short = short_is inside.free (omega (arith, room)) in
-      let store = line (raised 1 inside.mark) (I.Store inside.free) in
+      let slot = element_slot (length es) inside.free own in
+      let store = line (raised 1 inside.mark) (I.Store slot) in
       both_fit
       (value_code setting inside place e)
-      (store ∷ stored_code setting (keeping 1 inside) (place + expression_size setting e + 1) es)
+      (store ∷ stored_code setting (keeping 1 inside) own (place + expression_size setting e + 1) es)
       (value_ranged inside.mark inside.free place e short f.0 (omega (arith, p)))
       (one_more
       store
-      (stored_code setting (keeping 1 inside) (place + expression_size setting e + 1) es)
-      (line_fits (raised 1 inside.mark) (I.Store inside.free) (space_mark inside.mark first 1 s (omega arith)) short)
-      (stored_ranged (keeping 1 inside) first (place + expression_size setting e + 1) es s f.1 (omega (arith, room)) (omega (arith, p))))
+      (stored_code setting (keeping 1 inside) own (place + expression_size setting e + 1) es)
+      (line_fits (raised 1 inside.mark) (I.Store slot) (space_mark inside.mark first 1 s (omega arith)) (element_short (length es) inside.free own short (short_is own last)))
+      (stored_ranged (keeping 1 inside) first own (place + expression_size setting e + 1) es s f.1 (omega (arith, room)) last (omega (arith, p))))
 
   mutual
     pub statement_ranged : (inside : Inside) (place : ℕ) (st : Statement) → HasSpace inside.mark inside.free → StatementFits setting inside.mark inside.free st → LoopFits inside.loop → place + statement_size setting inside.mark.tries inside.loop.tries st < 2 ^ 32 → LinesFit (statement_code setting inside place st)
@@ -134,11 +143,12 @@ module _ (setting : Setting) (sound : SettingFits setting) where
         (value_ranged inside.mark inside.free place e (free_is inside.mark inside.free s) f (omega (arith, p)))
         (space_row inside.mark inside.free 1 store s (omega arith) (omega arith) (two_fit setting sound x, tt))
     statement_ranged inside place (assign_list x es) s f l p =
+        let own = slot_of setting x + (length es - 1) in
         both_fit
-        (stored_code setting inside place es)
-        (straight inside.mark (moved (length es) inside.free (slot_of setting x)))
-        (stored_ranged inside inside.free place es s f.0 f.1.1 (omega (arith, p)))
-        (moved_fits (length es) inside.free (slot_of setting x) inside.mark s.empty s.handlers s.recording f.1.1 f.1.0)
+        (stored_code setting inside own place es)
+        (straight inside.mark (moved (length es - 1) inside.free (slot_of setting x)))
+        (stored_ranged inside inside.free own place es s f.0 f.1.1 (omega (arith, f.1.0)) (omega (arith, p)))
+        (moved_fits (length es - 1) inside.free (slot_of setting x) inside.mark s.empty s.handlers s.recording (omega (arith, f.1.1)) (omega (arith, f.1.0)))
     statement_ranged inside place (if_then c b rest) s f l p =
         let m = inside.mark in
         let test = test_instrs (is_turned Branch c) (test_place setting place c) (else_place setting inside place c b rest) in
@@ -209,15 +219,12 @@ module _ (setting : Setting) (sound : SettingFits setting) where
         (block_ranged (in_loop again (again + 4) (keeping 2 inside)) (turns + 10) b f.2 f.3 (record { again = omega (arith, most); past = omega (arith, most) }) (omega (arith, most))))
         (bare_row m inside.free end s (omega arith) (short', (short, (refl, (place_is (turns + 3) (omega (arith, most)), tt)))))
     statement_ranged inside place (parallel b) s f l p =
-        let m = inside.mark in
-        let begin = I.Now ∷ I.Dup ∷ I.Store inside.free ∷ I.Store (inside.free + 1) ∷ [] in
-        let short = free_is m inside.free s in
-        let short' = short_is (inside.free + 1) (omega (arith, s.slots)) in
+        let first = place + parallel_begin_size (has_second b) in
         both_fit
-        (straight m begin)
-        (parallel_code setting (keeping 2 inside) (place + 4) b)
-        (bare_row m inside.free begin s (omega arith) (refl, (refl, (short, (short', tt)))))
-        (parallel_ranged (keeping 2 inside) (place + 4) b f.0 f.1 l (omega (arith, p)))
+        (straight inside.mark (parallel_begins inside (has_second b)))
+        (parallel_code setting (keeping 2 inside) first b)
+        (begin_ranged inside (has_second b) s)
+        (parallel_ranged (keeping 2 inside) first b f.0 f.1 l (omega (arith, p)))
     statement_ranged inside place (sequential b) s f l p = block_ranged inside place b s f l p
     statement_ranged inside place (record_as name b) s f l p =
         let m = inside.mark in
@@ -276,7 +283,7 @@ module _ (setting : Setting) (sound : SettingFits setting) where
     others_ranged : (inside : Inside) (place : ℕ) (b : Block) → HasSpace inside.mark inside.free → BlockFits setting inside.mark inside.free b → LoopFits inside.loop → place + others_size setting inside.mark.tries inside.loop.tries b < 2 ^ 32 → LinesFit (others_code setting inside place b)
     others_ranged inside place done s f l p =
         let one = short_is (inside.free - 1) (omega (arith, s.slots)) in
-        bare_row inside.mark inside.free (block_ends inside) s (omega arith) (one, (refl, (refl, (refl, tt))))
+        bare_row inside.mark inside.free (parallel_ends inside) s (omega arith) (one, (refl, (refl, (refl, tt))))
     others_ranged inside place (line_then ln st rest) s f l p =
         let m = inside.mark in
         let own = statement_code setting inside (place + 6) st in

@@ -87,11 +87,11 @@ module _ (s : Setting) (free : ℕ) (m : Mark) (l0 l1 l2 : List CodeLine) where
 
 module _ (s : Setting) (free : ℕ) (m : Mark) (l0 l1 l2 l3 : List CodeLine) where
   -- an operator behind its operands
-  pub binary_put : (op : BinaryOperator) (a b : Expression) (m1 m2 : Mark) (kind : ValueType) → l1 ≡ l0 ++ expression_code s free m (length l0) a → length l1 ≡ length l0 + expression_size s a → m1 ≡ raised 1 m → l2 ≡ l1 ++ expression_code s free m1 (length l1) b → m2 ≡ raised 2 m → kind ≡ wrapped_type op (literal b) (type_of s.scope (binary op a b)) → l3 ≡ l2 ++ straight m2 (operator_instrs op kind) → l3 ≡ l0 ++ expression_code s free m (length l0) (binary op a b)
+  pub binary_put : (op : BinaryOperator) (a b : Expression) (m1 m2 : Mark) (kind : ValueType) → l1 ≡ l0 ++ expression_code s free m (length l0) a → length l1 ≡ length l0 + expression_size s a → m1 ≡ raised 1 m → l2 ≡ l1 ++ expression_code s free m1 (length l1) b → m2 ≡ raised 2 m → kind ≡ wrapped_type op (literal a) (literal b) (type_of s.scope (binary op a b)) → l3 ≡ l2 ++ straight m2 (operator_instrs op kind) → l3 ≡ l0 ++ expression_code s free m (length l0) (binary op a b)
   binary_put op a b m1 m2 kind first longer_first same1 second same2 same_kind last =
       let A = expression_code s free m (length l0) a in
       let B = expression_code s free (raised 1 m) (length l0 + expression_size s a) b in
-      let T = straight (raised 2 m) (operator_instrs op (wrapped_type op (literal b) (type_of s.scope (binary op a b)))) in
+      let T = straight (raised 2 m) (operator_instrs op (wrapped_type op (literal a) (literal b) (type_of s.scope (binary op a b)))) in
       let all : l3 ≡ ((l0 ++ A) ++ B) ++ T = cc in
       let flat : ((l0 ++ A) ++ B) ++ T ≡ l0 ++ ((A ++ B) ++ T) = simp append_assoc in
       all ∙ flat

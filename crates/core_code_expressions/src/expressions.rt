@@ -1,6 +1,6 @@
 // The code of expressions, put behind the lines that there are.
 
-ghost use Rattle.std.specs.Prelude.{◌≡◌, ◌+◌, ◌<◌, ◌++◌, ◌^◌, [], ◌∷◌, IfOk, OnOk, length};
+ghost use Rattle.std.specs.Prelude.{◌≡◌, ◌+◌, ◌<◌, ◌++◌, [], ◌∷◌, IfOk, OnOk, length};
 ghost use Rattle.kern_calls.specs.Calls.{builtin_named, method_named};
 ghost use Rattle.kern_calls.specs.Types.{call_type, type_of};
 ghost use Rattle.kern_syntax.specs.Tree.{no_more};
@@ -81,7 +81,7 @@ pub fn put_expression(
             let first = put_expression(lines, setting, free, mark, left)?;
             let second = put_expression(lines, setting, free, raised(mark, 1), right)?;
             let kind = binary_type(*operator, first, second);
-            let wrapped = wrapped_type(*operator, right, kind);
+            let wrapped = wrapped_type(*operator, left, right, kind);
             put_operator(lines, raised(mark, 2), *operator, wrapped)?;
             Ok(kind)
         }

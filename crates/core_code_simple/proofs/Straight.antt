@@ -1,10 +1,10 @@
 -- Rows of instructions, as a loop puts them.
-use Rattle.std.proofs.Common.{◌≡◌, ℕ, suc, ◌+◌, ◌-◌, ◌<◌, ◌≤◌, [], ◌∷◌, ◌++◌, refl, ap, arith}
+use Rattle.std.proofs.Common.{◌≡◌, ℕ, zero, suc, ◌+◌, ◌-◌, ◌<◌, ◌≤◌, [], ◌∷◌, ◌++◌, refl, ap, arith}
 use Rattle.core_isa.specs.declared.code.Mark.{Mark}
 use Rattle.core_isa.specs.declared.instr.Instr.{Instr}
 use Rattle.core_isa.specs.declared.instr.Instr.TheVariants as I
 use Rattle.code_forms.specs.Lines.{line, straight, end_tries, mark_after}
-use Rattle.code_forms.specs.StatementCode.{moved}
+use Rattle.code_forms.specs.StatementCode.{moved, element_slot}
 
 -- one handler is removed, and then the others
 pub end_tries-more : (mark : Mark) (n i : ℕ) (last : Instr) → i < n → straight mark (end_tries (n - i) ++ last ∷ []) ≡ line mark I.EndTry ∷ straight (record mark { tries = mark.tries - 1 }) (end_tries (n - (i + 1)) ++ last ∷ [])
@@ -29,3 +29,8 @@ moved-more mark n i from to h =
 -- at the end none is left
 pub moved-none : (mark : Mark) (n i from to : ℕ) → n ≤ i → straight mark (moved (n - i) (from + i) (to + i)) ≡ []
 moved-none mark n i from to h = let e : n - i ≡ 0 = omega arith in rw e refl
+
+-- an element that isn't the last is stored in a free slot
+pub more_behind : (left free last : ℕ) → 1 ≤ left → element_slot left free last ≡ free
+more_behind zero free last more = absurd (omega (arith, more))
+more_behind (suc n) free last more = refl

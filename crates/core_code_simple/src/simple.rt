@@ -308,20 +308,22 @@ fn put_listed(
     ensures longer { OnOk result (length lines.new.items ≡ length lines.old.items
         + statement_size (setting_of setting.now) inside.mark.tries inside.enclosing.tries (assign_list array.now (map expression_of elements.now))) }
 {
-    put_stored(lines, setting, inside, elements)?;
-    let count = elements.len() as u16;
-    put_moved(lines, inside, count, setting.slot(array))
+    let first = setting.slot(array);
+    let others = elements.len().saturating_sub(1) as u16;
+    put_stored(lines, setting, inside, first + others, elements)?;
+    put_moved(lines, inside, others, first)
 }
 
 ghost use Rattle.code_forms.specs.Sizes.{stored_size};
 ghost use Rattle.code_forms.specs.StatementCode.{stored_code};
 ghost use Rattle.code_ranges.specs.ReadyStatements.{EachFits};
 
-// Some expressions, each of which is stored in a free slot.
+// Some expressions, each of which is stored in a free slot, but the last one in its place in the array.
 fn put_stored(
     lines: &mut Vec<CodeLine>,
     setting: &Setting<'_>,
     inside: Inside,
+    last: u16,
     elements: &[Expr],
 ) -> Result<(), AllocError>
     requires space { HasSpace inside.mark inside.free }
@@ -329,16 +331,29 @@ fn put_stored(
     requires slots { inside.free + length elements.now < 2 ^ 16 }
     requires places { length lines.old.items + stored_size (setting_of setting.now) (map expression_of elements.now) < 2 ^ 32 }
     ensures code { OnOk result (lines.new.items ≡ lines.old.items
-        ++ stored_code (setting_of setting.now) (inside_of inside) (length lines.old.items) (map expression_of elements.now)) }
+        ++ stored_code (setting_of setting.now) (inside_of inside) last (length lines.old.items) (map expression_of elements.now)) }
     ensures longer { OnOk result (length lines.new.items ≡ length lines.old.items + stored_size (setting_of setting.now) (map expression_of elements.now)) }
 {
     let mut slot = inside.free;
+    let mut left = elements.len();
     for element in elements.iter() {
+        left -= 1;
         put_expression(lines, setting, slot, inside.mark, element)?;
-        put(lines, raised(inside.mark, 1), Instr::Store(slot))?;
+        let store = Instr::Store(element_slot(left, slot, last));
+        put(lines, raised(inside.mark, 1), store)?;
         slot += 1;
     }
     Ok(())
+}
+
+ghost use Rattle.code_forms.specs.StatementCode.{element_slot};
+
+// The slot where an element of a list is stored, with so many behind it: a free one, but the last goes to its place in the array.
+#[tactic(auto, using(crate::proofs::Straight::more_behind))]
+fn element_slot(left: usize, free: u16, last: u16) -> u16
+    ensures { result ≡ element_slot left free last }
+{
+    if left == 0 { last } else { free }
 }
 
 ghost use Rattle.std.specs.Prelude.{◌*◌};

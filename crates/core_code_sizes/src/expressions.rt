@@ -63,7 +63,7 @@ pub fn expression_size(setting: &Setting<'_>, e: &Expr) -> Measure
             let first = expression_size(setting, left);
             let second = expression_size(setting, right);
             let kind = binary_type(*operator, first.kind, second.kind);
-            let wrapped = wrapped_type(*operator, right, kind);
+            let wrapped = wrapped_type(*operator, left, right, kind);
             Measure {
                 size: first.size + second.size + wrapped_size(wrapped),
                 kind,

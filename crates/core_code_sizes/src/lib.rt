@@ -13,5 +13,5 @@ pub use conditions::{asked_size, bare, is_turned};
 /// The size of a loop's test, which is asked turned round where that takes fewer instructions.
 pub use core_code_operations::loop_size;
 pub use expressions::{Measure, expression_size};
-pub use pieces::{negated, wrapped_type};
+pub use pieces::{has_second, negated, wrapped_type};
 pub use sizes::{block_size, branch_size, statement_size};

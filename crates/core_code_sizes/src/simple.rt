@@ -53,16 +53,16 @@ fn return_size(setting: &Setting<'_>, value: &Option<Expr>) -> u32
     }
 }
 
-ghost use Rattle.std.specs.Prelude.{◌*◌, length, map};
+ghost use Rattle.std.specs.Prelude.{◌*◌, ◌-◌, length, map};
 
-// The elements of an array: each is stored, and later moved to its place by two instructions.
+// The elements of an array: each is stored, and all but the last are later moved to their places by two instructions.
 fn elements_size(setting: &Setting<'_>, elements: &[Expr]) -> u32
-    requires { stored_size (setting_of setting.now) (map expression_of elements.now) + 2 * length (map expression_of elements.now) < 2 ^ 32 }
-    ensures { result ≡ stored_size (setting_of setting.now) (map expression_of elements.now) + 2 * length (map expression_of elements.now) }
+    requires { stored_size (setting_of setting.now) (map expression_of elements.now) + 2 * (length (map expression_of elements.now) - 1) < 2 ^ 32 }
+    ensures { result ≡ stored_size (setting_of setting.now) (map expression_of elements.now) + 2 * (length (map expression_of elements.now) - 1) }
 {
     let mut size = 0;
     for element in elements.iter() {
-        size += expression_size(setting, element).size + 3;
+        size += expression_size(setting, element).size + 1;
     }
-    size
+    size + 2 * elements.len().saturating_sub(1) as u32
 }

@@ -7,6 +7,7 @@ ghost use Rattle.core_code_names.specs.SettingOf.{setting_of};
 
 use crate::conditions::{asked_size, is_turned};
 use crate::expressions::expression_size;
+use crate::pieces::{has_second, parallel_begin_size};
 use crate::simple::simple_size;
 use code_forms::TestKind;
 use core_code_names::Setting;
@@ -54,7 +55,10 @@ pub fn statement_size(setting: &Setting<'_>, tries: u32, kept: u32, statement: &
                 + expression_size(setting, to).size
                 + 14
         }
-        StmtKind::Parallel(body) => parallel_size(setting, tries, kept, body) + 4,
+        StmtKind::Parallel(body) => {
+            parallel_size(setting, tries, kept, body)
+                + parallel_begin_size(has_second(&body.statements))
+        }
         StmtKind::Sequential(body) => block_size(setting, tries, kept, body),
         StmtKind::Record(_, body) => block_size(setting, tries, kept, body) + 2,
         StmtKind::Try(body, handlers) => {

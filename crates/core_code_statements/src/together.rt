@@ -13,11 +13,12 @@ use crate::blocks::put_statement;
 use core_code_names::Setting;
 use core_code_simple::Inside;
 use core_code_simple::lines::put_all;
+use core_code_sizes::has_second;
 use core_isa::{CodeLine, Instr};
 use kern_syntax::Block;
 use std::alloc::AllocError;
 
-/// A parallel block keeps its start and the greatest end in two free slots.
+/// A parallel block keeps the greatest end in a free slot and, if there is a second statement, its start in another one.
 #[cycle(statements)]
 pub fn put_parallel(
     lines: &mut Vec<CodeLine>,
@@ -38,7 +39,7 @@ pub fn put_parallel(
         free: inside.free + 2,
         ..inside
     };
-    put_begin(lines, inside)?;
+    put_begin(lines, inside, has_second(&body.statements))?;
     put_together(lines, setting, together, body)
 }
 
@@ -77,28 +78,31 @@ fn put_together(
     put_end(lines, inside)
 }
 
-ghost use Rattle.std.specs.Prelude.{[], ◌∷◌};
-ghost use Rattle.core_isa.specs.declared.instr.Instr.TheVariants as I;
 ghost use Rattle.code_forms.specs.Lines.{straight};
+ghost use Rattle.code_forms.specs.Sizes.{parallel_begin_size};
+ghost use Rattle.code_forms.specs.StatementCode.{parallel_begins, parallel_ends, next_begins};
 
-// The cursor is kept, as the start and as the greatest end so far.
-fn put_begin(lines: &mut Vec<CodeLine>, inside: Inside) -> Result<(), AllocError>
+// The cursor is kept as the greatest end so far and, if there is a second statement, as its start too.
+fn put_begin(lines: &mut Vec<CodeLine>, inside: Inside, second: bool) -> Result<(), AllocError>
     requires { HasSpace inside.mark inside.free }
     ensures code { OnOk result (lines.new.items ≡ lines.old.items
-        ++ straight inside.mark (I.Now ∷ I.Dup ∷ I.Store inside.free ∷ I.Store (inside.free + 1) ∷ [])) }
-    ensures longer { OnOk result (length lines.new.items ≡ length lines.old.items + 4) }
+        ++ straight inside.mark (parallel_begins (inside_of inside) second)) }
+    ensures longer { OnOk result (length lines.new.items ≡ length lines.old.items + parallel_begin_size second) }
 {
-    let (start, greatest) = (inside.free, inside.free + 1);
-    let begins = [
-        Instr::Now,
-        Instr::Dup,
-        Instr::Store(start),
-        Instr::Store(greatest),
-    ];
-    put_all(lines, inside.mark, &begins)
+    let greatest = inside.free + 1;
+    if second {
+        let start = inside.free;
+        let begins = [
+            Instr::Now,
+            Instr::Dup,
+            Instr::Store(start),
+            Instr::Store(greatest),
+        ];
+        put_all(lines, inside.mark, &begins)
+    } else {
+        put_all(lines, inside.mark, &[Instr::Now, Instr::Store(greatest)])
+    }
 }
-
-ghost use Rattle.code_forms.specs.StatementCode.{block_ends, next_begins};
 
 // A statement has ended, whose end counts where it is the greatest, and the next one begins at the start.
 fn put_next_begin(lines: &mut Vec<CodeLine>, inside: Inside) -> Result<(), AllocError>
@@ -123,7 +127,7 @@ fn put_next_begin(lines: &mut Vec<CodeLine>, inside: Inside) -> Result<(), Alloc
 fn put_end(lines: &mut Vec<CodeLine>, inside: Inside) -> Result<(), AllocError>
     requires space { HasSpace inside.mark inside.free }
     requires slots { 2 ≤ inside.free }
-    ensures code { OnOk result (lines.new.items ≡ lines.old.items ++ straight inside.mark (block_ends (inside_of inside))) }
+    ensures code { OnOk result (lines.new.items ≡ lines.old.items ++ straight inside.mark (parallel_ends (inside_of inside))) }
     ensures longer { OnOk result (length lines.new.items ≡ length lines.old.items + 4) }
 {
     let greatest = inside.free - 1;

@@ -33,11 +33,13 @@ pub put_expression-returns-in_ok-put_operator-in-Binary-clause-code : goal.put_e
 put_expression-returns-in_ok-put_operator-in-Binary-clause-code t c =
     let tree : expression_of c.args.e.now ≡ binary c.in-Binary.operator (expression_of c.deref-in-Binary.result.now) (expression_of c.deref-in-Binary-2.result.now) = search (rules, the_lemmas) in
     let typed : c.binary_type-kind.result ≡ type_of (setting_of c.args.setting.now).scope (binary c.in-Binary.operator (expression_of c.deref-in-Binary.result.now) (expression_of c.deref-in-Binary-2.result.now)) = same_type c.in-Binary.operator _ _ _ _ c.in_ok-first-in-Binary.ensures.kind c.in_ok-second-in-Binary.ensures.kind c.binary_type-kind.ensures in
-    let right : expression_of c.deref-in-Binary-3.result.now ≡ expression_of c.deref-in-Binary-2.result.now = search (rules, the_lemmas) in
-    let wrapped : c.wrapped_type-wrapped.result ≡ wrapped_type c.in-Binary.operator (literal (expression_of c.deref-in-Binary-2.result.now)) (type_of (setting_of c.args.setting.now).scope (binary c.in-Binary.operator (expression_of c.deref-in-Binary.result.now) (expression_of c.deref-in-Binary-2.result.now))) =
+    let left : expression_of c.deref-in-Binary-3.result.now ≡ expression_of c.deref-in-Binary.result.now = search (rules, the_lemmas) in
+    let right : expression_of c.deref-in-Binary-4.result.now ≡ expression_of c.deref-in-Binary-2.result.now = search (rules, the_lemmas) in
+    let wrapped : c.wrapped_type-wrapped.result ≡ wrapped_type c.in-Binary.operator (literal (expression_of c.deref-in-Binary.result.now)) (literal (expression_of c.deref-in-Binary-2.result.now)) (type_of (setting_of c.args.setting.now).scope (binary c.in-Binary.operator (expression_of c.deref-in-Binary.result.now) (expression_of c.deref-in-Binary-2.result.now))) =
     c.wrapped_type-wrapped.ensures
-    ∙ ap (λ e. wrapped_type c.in-Binary.operator (literal e) c.binary_type-kind.result) right
-    ∙ ap (wrapped_type c.in-Binary.operator (literal (expression_of c.deref-in-Binary-2.result.now))) typed in
+    ∙ ap (λ e. wrapped_type c.in-Binary.operator (literal e) (literal (expression_of c.deref-in-Binary-4.result.now)) c.binary_type-kind.result) left
+    ∙ ap (λ e. wrapped_type c.in-Binary.operator (literal (expression_of c.deref-in-Binary.result.now)) (literal e) c.binary_type-kind.result) right
+    ∙ ap (wrapped_type c.in-Binary.operator (literal (expression_of c.deref-in-Binary.result.now)) (literal (expression_of c.deref-in-Binary-2.result.now))) typed in
     let put = binary_put (setting_of c.args.setting.now) c.args.free c.args.mark c.args.lines.now.items _ _ _ c.in-Binary.operator (expression_of c.deref-in-Binary.result.now) (expression_of c.deref-in-Binary-2.result.now) _ _ _ c.in_ok-first-in-Binary.ensures.code c.in_ok-first-in-Binary.ensures.longer c.raised-in-Binary.ensures c.in_ok-second-in-Binary.ensures.code c.raised-in-Binary-2.ensures wrapped c.in_ok-put_operator-in-Binary.ensures in
     put ∙ ap (λ e. c.args.lines.now.items ++ expression_code (setting_of c.args.setting.now) c.args.free c.args.mark (length c.args.lines.now.items) e) (sym tree)
 

@@ -9,7 +9,9 @@ use Rattle.core_code_simple.proofs.simple.put_stored.Given as goal
 
 abbrev pub invariant-loop-element : goal.invariant-loop-element
 invariant-loop-element l =
-    (l.lines.items ++ stored_code (setting_of l.fn.setting) (record (inside_of l.fn.inside) { free = l.slot }) (length l.lines.items) (map expression_of (drop l.element-index l.fn.elements)) ≡ l.initial.lines.items ++ stored_code (setting_of l.fn.setting) (inside_of l.fn.inside) (length l.initial.lines.items) (map expression_of l.fn.elements))
+    (l.lines.items ++ stored_code (setting_of l.fn.setting) (record (inside_of l.fn.inside) { free = l.slot }) l.fn.last (length l.lines.items) (map expression_of (drop l.element-index l.fn.elements)) ≡ l.initial.lines.items ++ stored_code (setting_of l.fn.setting) (inside_of l.fn.inside) l.fn.last (length l.initial.lines.items) (map expression_of l.fn.elements))
     × (length l.lines.items + stored_size (setting_of l.fn.setting) (map expression_of (drop l.element-index l.fn.elements)) ≡ length l.initial.lines.items + stored_size (setting_of l.fn.setting) (map expression_of l.fn.elements))
     × (l.slot ≡ l.fn.inside.free + l.element-index)
     × EachFits l.fn.inside.mark (map expression_of (drop l.element-index l.fn.elements))
+    × (l.left + l.element-index ≡ length l.fn.elements)
+    × (l.left ≡ length (map expression_of (drop l.element-index l.fn.elements)))
