@@ -20,7 +20,7 @@ mod Edges
 pub mod OutputsDecided
 mod Tops
 mod Leaping
-mod Reasons
+pub mod Reasons
 mod Emptied
 mod Stored
 pub mod LastSaved

@@ -31,7 +31,7 @@ use Rattle.rtio_core.proofs.Asked.{asked-bound}
 use Rattle.rtio_core.proofs.Laws.{least_from-before}
 use Rattle.rtio_core.proofs.Settings.{AreInRange, ranges-of}
 
-from-front : (P : List Entry → Type 0) → ((front : List Entry) (entry : Entry) → P (front ++ entry ∷ [])) → (front rest : List Entry) → P front → P (front ++ rest)
+pub from-front : (P : List Entry → Type 0) → ((front : List Entry) (entry : Entry) → P (front ++ entry ∷ [])) → (front rest : List Entry) → P front → P (front ++ rest)
 from-front P last front [] h = subst P (sym (append-nil front)) h
 from-front P last front (entry ∷ rest) h = subst P (append_assoc front (entry ∷ []) rest) (from-front P last (front ++ entry ∷ []) rest (last front entry))
 
@@ -64,7 +64,7 @@ limit-reaches cost history = by-last (IsReached cost) none (λ front entry. reac
     none : IsReached cost []
     none running is = absurd (cc)
 
-limit-at-last : (cost : ℕ) (history : List Entry) (running : ℕ × ℕ) → open_session history ≡ Some running → 8 * last_at history ≤ limit cost history
+pub limit-at-last : (cost : ℕ) (history : List Entry) (running : ℕ × ℕ) → open_session history ≡ Some running → 8 * last_at history ≤ limit cost history
 unfolding IsReached
 limit-at-last cost history running is = limit-reaches cost history running is
 

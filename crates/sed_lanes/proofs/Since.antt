@@ -48,7 +48,7 @@ pub record AreAmong (lanes : ℕ) (judged : List Judged) : Type 0 where
   pub taken : AreBelow lanes (since_clearing judged)
   pub current : current_lane judged < lanes
 
-among-submitted : (lanes : ℕ) (judged : List Judged) (number at : ℕ) (e : Event) (v : Verdict) → AreAmong lanes judged → IsLaneBelow lanes v → AreAmong lanes (judged ++ Submitted number at e v ∷ [])
+pub among-submitted : (lanes : ℕ) (judged : List Judged) (number at : ℕ) (e : Event) (v : Verdict) → AreAmong lanes judged → IsLaneBelow lanes v → AreAmong lanes (judged ++ Submitted number at e v ∷ [])
 among-submitted lanes judged number at e v h below = record {
   taken = subst (AreBelow lanes) (sym (since_clearing-submitted judged number at e v)) (below-push lanes (since_clearing judged) number at e v h.taken below);
   current = moved v below;
