@@ -5,11 +5,11 @@
     python3 bench/try_edits.py NAME..              tries all edits of these crates
     python3 bench/try_edits.py --aside NAME..      tries only those that the gate doesn't try
 
-The edits of the gate stand in crates/NAME/must-fail, the others in edits/NAME. A try copies the crates that are named, and
-those below them, to a temporary folder, with the libraries and the work that `rt check` left beside them, and runs `rt
+The edits of the gate stand in a crate's folder must-fail/, the others in edits/NAME. A try copies the crates that are named,
+and those below them, to a temporary folder, with the libraries and the work that `rt check` left beside them, and runs `rt
 must-fail` there; RT_JOBS=2 keeps it from more than two checks at a time. Libraries that aren't there are built first, which
-takes as long as proving what they are made of. rt's line for each edit is printed as it comes, and last how many edits were
-refused, weren't, and couldn't be applied or tried. The status is 0 where each was refused, or with --check where each
+takes as long as proving what they are made of. What rt says of each edit is printed when all were tried, and last how many
+were refused, weren't, and couldn't be applied or tried. The status is 0 where each was refused, or with --check where each
 applies, 1 where not, and 2 where the words make no sense.
 """
 

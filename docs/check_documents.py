@@ -16,8 +16,8 @@ status 1 where something is otherwise than written, and says where. What it trie
 - Each kernel in examples/ gives its report under the options in its `.words`, and stands with all three in the test of
   sim_examples. Each session there that has a report gives it.
 - Each path in backquotes is there; ARCHITECTURE.md names each file of definitions or its folder, and, as the README, each
-  crate; each word in backquotes in CONTRACTS.md stands in the code of the crate that its heading names; and the README has
-  at most 12 KB, no cell of a table more than forty words.
+  crate; each word in backquotes in CONTRACTS.md stands in the code of the crate that its heading names; the edits that
+  WRONG_BODIES.md names stand in the gate; and the README has at most 12 KB, no cell of a table more than forty words.
 """
 import pathlib
 import re
@@ -143,6 +143,12 @@ class Checker:
             for cell in line.split("|") if line.startswith("|") else []:
                 self.expect("README.md", f"at most forty words: {cell}", len(cell.split()) <= 40, True)
 
+    def edits(self):
+        page = re.sub(r"`[^`\n]+`", "", (ROOT / "docs/WRONG_BODIES.md").read_text())
+        for crate, edit in re.findall(r"\b(\w+)/(\w+)", page):
+            stands = (ROOT / "crates" / crate / "must-fail" / f"{edit}.edit").exists()
+            self.expect("docs/WRONG_BODIES.md", f"{crate}/{edit}", stands, True)
+
     def names(self):
         lines = (ROOT / "crates.txt").read_text().splitlines()
         crates = [line.split(":")[0].split()[0] for line in lines if ":" in line and not line.startswith("#")]
@@ -188,6 +194,7 @@ def main():
         checker.examples()
         checker.sessions()
         checker.sizes()
+        checker.edits()
         checker.names()
     print(f"{checker.tried} tried, {checker.wrong} otherwise than written")
     sys.exit(1 if checker.wrong else 0)
