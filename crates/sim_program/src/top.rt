@@ -14,7 +14,8 @@ use lab_io::{ReadEnd, Sink, Source, read_all, write_all};
 use sim_words::{Asked, WordsEnd, read_words};
 use std::alloc::Global;
 
-const USAGE: &[u8] = b"usage: artiq_sim sim or check or compile or exec or gen or dump or vcd\n";
+const USAGE: &[u8] =
+    b"usage: artiq_sim sim or check or compile or exec or gen or dump or vcd or sat\n";
 
 // The most bytes of a kernel's text.
 const MAX_TEXT: u64 = 1_048_576;
@@ -132,9 +133,11 @@ fn bytes_of<S: Source>(alloc: Global, asked: &Asked, source: &mut S) -> Result<V
     ensures steady { result ≢ Err ReadEnd.Fault → S.faults source.new ≡ S.faults source.old }
 {
     match asked {
-        Asked::Sim { .. } | Asked::Dump { .. } | Asked::Check | Asked::Compile => {
-            read_all(alloc, source, MAX_TEXT)
-        }
+        Asked::Sim { .. }
+        | Asked::Dump { .. }
+        | Asked::Sat { .. }
+        | Asked::Check
+        | Asked::Compile => { read_all(alloc, source, MAX_TEXT) }
         Asked::Exec { .. } => read_all(alloc, source, MAX_IMAGE),
         Asked::Vcd => read_all(alloc, source, MAX_DUMP),
         Asked::Generated { number, .. } | Asked::Gen { number } => match generated_text(
