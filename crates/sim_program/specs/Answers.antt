@@ -92,9 +92,8 @@ pub record CompilesText (text written : List ℕ) : Type 0 where
   pub image : written ≡ image_of code
 
 -- the bytes and the status that a command owes: the report of a run of the kernel or of the image, and its status; the summary of
--- a run of the generated kernel; the bytes of what the core did in a run of the kernel; the lines of a link over which a run's events
--- are sent; or with status 0 the canonical text, the
--- image, the generated text itself, or the waveform
+-- a run of the generated kernel; the bytes of what the core did in a run of the kernel; the lines of a link over which the events of a
+-- run of the kernel are sent; or with status 0 the canonical text, the image, the generated text itself, or the waveform
 abbrev pub IsDue : Asked → (text written : List ℕ) → (status : ℕ) → Type 0
 IsDue (Sim options dma) text written status = Tells (RunsKernel options text) (Report dma) options.budget written status
 IsDue (Generated number options) text written status = Tells (RunsKernel options text) Summary options.budget written status

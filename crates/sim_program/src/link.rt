@@ -7,8 +7,8 @@ use rtio_headline::no_more_is_told_than_was_asked;
 use sat_rounds::{LinkWord, link_text, run_rounds};
 use std::alloc::{AllocError, Global};
 
-/// Sends what a run's core put out over a link to so many lanes of such a depth, in rounds of the word, and tells of the link. It
-/// fails only for want of memory. A run has at most 1,000,000 requests, its start and its end.
+/// Sends what a run's core put out over a link to so many lanes of such a depth, in rounds of the word, and tells of
+/// the link. It fails only for want of memory. A run has at most 1,000,000 requests, its start and its end.
 pub fn lines_of(
     alloc: Global,
     run: &Run,

@@ -34,6 +34,7 @@ pub enum Asked {
     Dump { options: Options },
     /// `vcd`: such bytes are written as a waveform text.
     Vcd,
-    /// `sat`: a kernel text is run, and the events that its core put out are sent over a link, in rounds of the word's letters.
+    /// `sat`: a kernel text is run, and the events that its core put out are sent over a link, in rounds of the word's
+    /// letters.
     Sat { options: Options, word: LinkWord },
 }
