@@ -14,7 +14,8 @@ status 1 where something is otherwise than written, and says where. What it trie
 - In a table with the columns line, text and mended, the text is refused with the line, and the mended one isn't refused.
 - Where a sentence says that a text in backquotes gives, or is told as, a line in backquotes, the text is refused so.
 - Each kernel in examples/ gives its report under the options in its `.words`, and stands with all three in the test of
-  sim_examples. Each session there that has a report gives it.
+  sim_examples. Where it has `.links`, each line "$ sat WORDS" there gives the lines below it. Each session there that has a
+  report gives it.
 - Each path in backquotes is there; ARCHITECTURE.md names each file of definitions or its folder, and, as the README, each
   crate; each word in backquotes in CONTRACTS.md stands in the code of the crate that its heading names; the edits that
   WRONG_BODIES.md names stand in the gate; and the README has at most 12 KB, no cell of a table more than forty words.
@@ -28,7 +29,7 @@ import tempfile
 ROOT = pathlib.Path(__file__).resolve().parent.parent
 FENCE = re.compile(r"^```(\w*) ?(.*)\n((?:.*\n)*?)```$", re.M)
 GIVES = re.compile(r"`([^`\n]+)` (?:gives|is told as) `((?:lex|syntax|type|code) [^`\n]+)`")
-COMMAND = re.compile(r"^    ((?:bin/artiq_sim (?:sim|check|compile|exec|gen|dump|vcd)|bin/artiq_lab|head|python3 docs/(?!check_documents))[^#\n]*)", re.M)
+COMMAND = re.compile(r"^    ((?:bin/artiq_sim (?:sim|check|compile|exec|gen|dump|vcd|sat)|bin/artiq_lab|head|python3 docs/(?!check_documents))[^#\n]*)", re.M)
 PATH = re.compile(r"`((?:docs|crates|examples|bench|bin)/[\w./-]+)`")
 
 
@@ -129,6 +130,14 @@ class Checker:
                 literal = text.replace("\\", "\\\\").replace('"', '\\"').replace("\n", "\\n")
                 self.expect(example.name, "its test", f'"{literal}"' in tests, True)
 
+    def links(self):
+        for links in sorted((ROOT / "examples").glob("*.links")):
+            text = links.with_suffix(".py").read_text()
+            for part in re.split(r"^\$ ", links.read_text(), flags=re.M)[1:]:
+                words, _, lines = part.partition("\n")
+                command, *options = words.split()
+                self.expect(links.name, words, self.program(command, text, options), (0, lines, ""))
+
     def sessions(self):
         for report in sorted((ROOT / "examples").glob("*.report")):
             session = report.with_suffix(".json")
@@ -192,6 +201,7 @@ def main():
         for path in [ROOT / "README.md", ROOT / "examples/README.md", *sorted((ROOT / "docs").glob("*.md"))]:
             checker.page(path)
         checker.examples()
+        checker.links()
         checker.sessions()
         checker.sizes()
         checker.edits()

@@ -2,6 +2,7 @@ mod Kernels
 mod Images
 mod Running
 mod Few
+mod Sending
 mod Waves
 mod Answering
 mod Known

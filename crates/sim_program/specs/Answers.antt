@@ -9,7 +9,7 @@ use Rattle.core_image.specs.Spelling.{image_of}
 use Rattle.code_law.specs.DoesAs.{DoesAs}
 use Rattle.kernel_gen.specs.Generated.{kernel_text}
 use Rattle.sim_words.specs.declared.asked.Asked.{Asked}
-use Rattle.sim_words.specs.declared.asked.Asked.TheVariants.{Sim, Generated, Check, Compile, Exec, Gen, Dump, Vcd}
+use Rattle.sim_words.specs.declared.asked.Asked.TheVariants.{Sim, Generated, Check, Compile, Exec, Gen, Dump, Vcd, Sat}
 use Rattle.sim_program.specs.declared.report.Form.TheVariants.{Report, Summary, Bytes}
 use Rattle.sim_program.specs.Texts.{IsKernelText, IsTextRefused}
 use Rattle.core_analyzer.specs.Dumps.{Dumped}
@@ -17,6 +17,7 @@ use Rattle.sim_program.specs.Images.{IsAcceptedImage, IsImageRefused}
 use Rattle.sim_program.specs.Waves.{DrawsWave, IsDumpRefused, IsWaveDump}
 use Rattle.sim_program.specs.Runs.{RunsImage, RunsKernel}
 use Rattle.sim_program.specs.Reports.{Tells}
+use Rattle.sim_program.specs.Links.{TellsLink}
 
 -- ---- where a command's bytes come from
 
@@ -47,6 +48,7 @@ origin_of (Exec options dma) = Reads max_image
 origin_of (Gen number) = Has (kernel_text number)
 origin_of (Dump options) = Reads max_text
 origin_of Vcd = Reads max_dump
+origin_of (Sat options word) = Reads max_text
 
 abbrev pub HasBytes : Origin → Type 0
 HasBytes (Reads most) = ⊥
@@ -90,8 +92,8 @@ pub record CompilesText (text written : List ℕ) : Type 0 where
   pub image : written ≡ image_of code
 
 -- the bytes and the status that a command owes: the report of a run of the kernel or of the image, and its status; the summary of
--- a run of the generated kernel; the bytes of what the core did in a run of the kernel; or with status 0 the canonical text, the
--- image, the generated text itself, or the waveform
+-- a run of the generated kernel; the bytes of what the core did in a run of the kernel; the lines of a link over which the events of a
+-- run of the kernel are sent; or with status 0 the canonical text, the image, the generated text itself, or the waveform
 abbrev pub IsDue : Asked → (text written : List ℕ) → (status : ℕ) → Type 0
 IsDue (Sim options dma) text written status = Tells (RunsKernel options text) (Report dma) options.budget written status
 IsDue (Generated number options) text written status = Tells (RunsKernel options text) Summary options.budget written status
@@ -101,6 +103,7 @@ IsDue (Exec options dma) text written status = Tells (RunsImage options text) (R
 IsDue (Gen number) text written status = (written ≡ text) × (status ≡ 0)
 IsDue (Dump options) text written status = Tells (RunsKernel options text) Bytes options.budget written status
 IsDue Vcd text written status = DrawsWave text written × (status ≡ 0)
+IsDue (Sat options word) text written status = TellsLink options word text written status
 
 -- the bytes that a command takes: a text of an accepted kernel, for `exec` an image of accepted code, or for `vcd` a dump whose
 -- stamps are at least 8
@@ -113,6 +116,7 @@ IsTaken (Exec options dma) text = (code : Code) × IsAcceptedImage text code
 IsTaken (Gen number) text = Unit {0}
 IsTaken (Dump options) text = (program : ProgramTree) × IsKernelText text program
 IsTaken Vcd text = (dump : Dumped) × IsWaveDump text dump
+IsTaken (Sat options word) text = (program : ProgramTree) × IsKernelText text program
 
 -- why a command refuses a text, and the line that says so; `exec`, `gen` and `vcd` take no text
 abbrev pub IsRefused : Asked → (text told : List ℕ) → Type 0
@@ -124,6 +128,7 @@ IsRefused (Exec options dma) text told = ⊥
 IsRefused (Gen number) text told = ⊥
 IsRefused (Dump options) text told = IsTextRefused text told
 IsRefused Vcd text told = ⊥
+IsRefused (Sat options word) text told = IsTextRefused text told
 
 -- why `exec` or `vcd` refuses its bytes, and the line that says so; no other command takes an image or a dump
 abbrev pub IsBad : Asked → (bytes told : List ℕ) → Type 0
@@ -145,6 +150,7 @@ IsEnd (Exec options dma) status = IsRunEnd status
 IsEnd (Gen number) status = status ≡ 0
 IsEnd (Dump options) status = IsRunEnd status
 IsEnd Vcd status = status ≡ 0
+IsEnd (Sat options word) status = IsRunEnd status
 
 -- ---- what was read and written
 
@@ -202,7 +208,7 @@ pub data Refusal : Type 0 where
 abbrev pub refusal_line : Refusal → List ℕ
 refusal_line (of_text told) = told
 refusal_line (of_bytes told) = told
-refusal_line usage = codes "usage: artiq_sim sim or check or compile or exec or gen or dump or vcd\n"
+refusal_line usage = codes "usage: artiq_sim sim or check or compile or exec or gen or dump or vcd or sat\n"
 refusal_line read_fault = codes "read fault\n"
 refusal_line memory = codes "memory\n"
 refusal_line too_long = codes "too long\n"

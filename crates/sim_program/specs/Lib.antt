@@ -3,5 +3,6 @@ pub mod Images
 pub mod Waves
 pub mod Runs
 pub mod Reports
+pub mod Links
 pub mod Answers
 pub mod Readings

@@ -35,6 +35,8 @@ use Rattle.sim_program.specs.declared.wave.Wave.{Wave}
 use Rattle.sim_program.specs.declared.wave.Wave.TheVariants as wave
 use Rattle.sim_program.specs.Waves.{DrawsWave, IsDumpRefused, IsWaveDump}
 use Rattle.sim_program.specs.declared.report.Form.{Form}
+use Rattle.sat_rounds.specs.declared.letters.Letter.{Letter}
+use Rattle.sim_program.specs.Links.{TellsLink}
 use Rattle.sim_program.specs.Runs.{IsReported, RunsKernel, RunsMain, start_of}
 use Rattle.sim_program.specs.declared.run.Run.{Run}
 use Rattle.sim_report.specs.Pending.{pends}
@@ -116,6 +118,13 @@ IsRunAnswer options form text (answer.Due bytes finish) =
     Tells (RunsKernel options text) form options.budget bytes.items (status_of finish) × ((told : List ℕ) → ¬ IsTextRefused text told)
 IsRunAnswer options form text (answer.Refused told) = IsTextRefused text told.items × IsNoKernelText text
 IsRunAnswer options form text (answer.Bad told) = ⊥
+
+-- an answer tells of a link over which the events of a run of the kernel are sent, or refuses the text
+abbrev pub IsLinkAnswer : Options → List Letter → Bytes → Answer → Type 0
+IsLinkAnswer options word text (answer.Due bytes finish) =
+    TellsLink options word text bytes.items (status_of finish) × ((told : List ℕ) → ¬ IsTextRefused text told)
+IsLinkAnswer options word text (answer.Refused told) = IsTextRefused text told.items × IsNoKernelText text
+IsLinkAnswer options word text (answer.Bad told) = ⊥
 
 -- an answer has the text of a run and its finish
 abbrev pub TellsOf : Form → Run → (budget size : ℕ) → Answer → Type 0

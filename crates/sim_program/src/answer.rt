@@ -4,12 +4,13 @@ ghost use Rattle.kern_syntax.specs.TreeOf.{tree_of};
 ghost use Rattle.rtio_core.specs.Entries.{is_config_ok};
 ghost use Rattle.sim_report.specs.Ends.{HasEnded};
 ghost use Rattle.sim_words.specs.Asked.{IsAccepted};
-ghost use Rattle.sim_program.specs.Readings.{IsAnswerTo, IsReadAs, IsRunAnswer, TellsOf};
+ghost use Rattle.sim_program.specs.Readings.{IsAnswerTo, IsLinkAnswer, IsReadAs, IsRunAnswer, TellsOf};
 ghost use Rattle.sim_program.specs.Texts.{IsKernel};
 
 use crate::finish::{Finish, finish_of};
 use crate::image::{Image, image_of};
 use crate::kernel::{Built, Kernel, built_of, kernel_of, over_limit};
+use crate::link::lines_of;
 use crate::refusal::code_refusal;
 use crate::report::{Form, text_of};
 use crate::run::{Run, run_image, run_main};
@@ -17,6 +18,7 @@ use crate::wave::{Wave, wave_of};
 use core_code::Compiled;
 use core_image::encode;
 use kern_syntax::print;
+use sat_rounds::LinkWord;
 use sim_report::pends;
 use sim_words::{Asked, Options};
 use std::alloc::{AllocError, Global};
@@ -46,6 +48,7 @@ pub fn answer_to(alloc: Global, asked: Asked, text: Vec<u8>) -> Result<Answer, A
         Asked::Exec { options, dma } => answer_by_code(alloc, &text, options, dma),
         Asked::Dump { options } => answer_by_run(alloc, &text, options, Form::Bytes),
         Asked::Vcd => answer_by_dump(alloc, &text),
+        Asked::Sat { options, word } => answer_by_link(alloc, &text, options, &word),
         Asked::Gen { .. } => Ok(Answer::Due {
             bytes: text,
             finish: Finish::Whole,
@@ -87,6 +90,48 @@ fn answer_of_kernel(
     let size = encode(alloc, compiled.code().code())?.len() as u64;
     let run = run_main(alloc, compiled, options)?;
     answer_of_run(alloc, form, &run, budget, size)
+}
+
+// Runs a kernel and sends what its core put out over a link.
+fn answer_by_link(
+    alloc: Global,
+    text: &[u8],
+    options: Options,
+    word: &LinkWord,
+) -> Result<Answer, AllocError>
+    requires config { IsTrue (is_config_ok options.config) }
+    requires units { options.budget ≤ 1000000 }
+    requires short { length text.now < 2 ^ 31 }
+    ensures { IfOk result (λ answer. IsLinkAnswer options word.now text.now answer) }
+{
+    match built_of(alloc, text)? {
+        Built::Refused(line) => Ok(Answer::Refused(line)),
+        Built::Ready(compiled) => answer_of_link(alloc, &compiled, options, word),
+    }
+}
+
+// Runs the kernel that a text is and sends what its core put out over a link.
+fn answer_of_link(
+    alloc: Global,
+    compiled: &Compiled,
+    options: Options,
+    word: &LinkWord,
+) -> Result<Answer, AllocError>
+    requires config { IsTrue (is_config_ok options.config) }
+    requires units { options.budget ≤ 1000000 }
+    ensures { (text : List ℕ) → IsReadAs text (tree_of compiled.now.0) → IsKernel (tree_of compiled.now.0)
+        → IfOk result (λ answer. IsLinkAnswer options word.now text answer) }
+{
+    let lanes = options.config.lanes;
+    let depth = options.config.depth;
+    // The code does what the program does.
+    let _code = compiled.code();
+    let run = run_main(alloc, compiled, options)?;
+    let bytes = lines_of(alloc, &run, lanes, depth, word)?;
+    Ok(Answer::Due {
+        bytes,
+        finish: finish_of(run.outcome, pends(&run.core)),
+    })
 }
 
 // Writes the canonical text of a kernel.

@@ -6,6 +6,7 @@ mod answer;
 mod finish;
 mod image;
 mod kernel;
+mod link;
 mod refusal;
 mod report;
 mod run;

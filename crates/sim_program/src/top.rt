@@ -14,7 +14,8 @@ use lab_io::{ReadEnd, Sink, Source, read_all, write_all};
 use sim_words::{Asked, WordsEnd, read_words};
 use std::alloc::Global;
 
-const USAGE: &[u8] = b"usage: artiq_sim sim or check or compile or exec or gen or dump or vcd\n";
+const USAGE: &[u8] =
+    b"usage: artiq_sim sim or check or compile or exec or gen or dump or vcd or sat\n";
 
 // The most bytes of a kernel's text.
 const MAX_TEXT: u64 = 1_048_576;
@@ -29,7 +30,8 @@ const MAX_DUMP: u64 = 33_554_432;
 /// kernel and writes the summary of its run; under `check` it reads a kernel's text and writes its canonical text; under
 /// `compile` it reads one and writes the image of its code, which does what the text means; under `exec` it reads such an
 /// image, runs it and writes its report; under `gen` it writes the generated text; under `dump` it reads a kernel's text, runs
-/// it and writes what its core did as bytes; under `vcd` it reads such bytes and writes their waveform.
+/// it and writes what its core did as bytes; under `vcd` it reads such bytes and writes their waveform; under `sat` it reads a
+/// kernel's text, runs it, sends what its core put out over a link with credits, and writes what became of each event.
 ///
 /// The status is 0 where all was done; 1 where a text is refused, and 9 where an image or a dump is; 2 where the words aren't
 /// accepted; 3 where the source failed, and 4 where a sink did; 5 for want of memory; 6 where the run raised an exception; 7
@@ -132,9 +134,11 @@ fn bytes_of<S: Source>(alloc: Global, asked: &Asked, source: &mut S) -> Result<V
     ensures steady { result ≢ Err ReadEnd.Fault → S.faults source.new ≡ S.faults source.old }
 {
     match asked {
-        Asked::Sim { .. } | Asked::Dump { .. } | Asked::Check | Asked::Compile => {
-            read_all(alloc, source, MAX_TEXT)
-        }
+        Asked::Sim { .. }
+        | Asked::Dump { .. }
+        | Asked::Sat { .. }
+        | Asked::Check
+        | Asked::Compile => { read_all(alloc, source, MAX_TEXT) }
         Asked::Exec { .. } => read_all(alloc, source, MAX_IMAGE),
         Asked::Vcd => read_all(alloc, source, MAX_DUMP),
         Asked::Generated { number, .. } | Asked::Gen { number } => match generated_text(

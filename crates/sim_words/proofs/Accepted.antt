@@ -12,11 +12,12 @@ use Rattle.run_schedule.specs.Schedules.{ScheduleState}
 use Rattle.option_values.specs.declared.end.ValueEnd.{ValueEnd}
 use Rattle.option_values.specs.Readings.{Reads}
 use Rattle.option_values.specs.Numbers.{number_in, number_of}
+use Rattle.sat_rounds.specs.declared.letters.Letter.{Letter}
 use Rattle.sim_words.specs.Given.{Given, given_of, value_of}
 use Rattle.sim_words.specs.declared.asked.Asked.{Asked}
-use Rattle.sim_words.specs.declared.asked.Asked.TheVariants.{Sim, Generated, Check, Compile, Exec, Gen, Dump, Vcd}
+use Rattle.sim_words.specs.declared.asked.Asked.TheVariants.{Sim, Generated, Check, Compile, Exec, Gen, Dump, Vcd, Sat}
 use Rattle.sim_words.specs.declared.asked.Options.{Options}
-use Rattle.sim_words.specs.Asked.{Command, IsAccepted, any_number, asked_of, budget_of, command_named, config_of, cost_of, depth_of, dma_of, dump_names, dump_of, edges_given, exec_names, exec_of, gen_names, gen_of, holds_given, horizon_of, if_read, lanes_of, options_of, read_or, recordings_given, schedule_given, sim_names, sim_of}
+use Rattle.sim_words.specs.Asked.{Command, IsAccepted, any_number, asked_of, budget_of, command_named, config_of, cost_of, depth_of, dma_of, dump_names, dump_of, edges_given, exec_names, exec_of, gen_names, gen_of, holds_given, horizon_of, if_read, lanes_of, options_of, read_or, recordings_given, schedule_given, sim_names, sim_of, link_given, sat_names, sat_of}
 
 -- a number lies in its range
 number-within : (least most : ℕ) (text : List ℕ) → IfSome (number_in least most text) (λ n. (least ≤ n) × (n ≤ most))
@@ -121,6 +122,15 @@ dump-accepted given = go (options_of given) (options-accepted given)
     go None held = tt
     go (Some options) held = held
 
+pub sat-accepted : (given : List Given) → IfSome (sat_of given) IsAccepted
+sat-accepted given = go (options_of given) (link_given given) (options-accepted given)
+  where
+    go : (options : Option Options) (word : Option (List Letter)) → IfSome options AreAccepted
+        → IfSome (if_read options (λ options. option_map (λ word. Sat options word) word)) IsAccepted
+    go None word held = tt
+    go (Some options) None held = tt
+    go (Some options) (Some word) held = held
+
 pub gen-accepted : (given : List Given) → IfSome (gen_of given) IsAccepted
 gen-accepted given = go (if_read (value_of (codes "number") given) any_number)
   where
@@ -136,8 +146,11 @@ choose true a b first second = first
 choose false a b first second = second
 
 -- the commands from one on
+abbrev from-sat : List ℕ → Option Command
+from-sat word = cond (bytes_eq word (codes "sat")) (Some (record { names = sat_names; asks = sat_of })) None
+
 abbrev from-vcd : List ℕ → Option Command
-from-vcd word = cond (bytes_eq word (codes "vcd")) (Some (record { names = []; asks = λ given. Some Vcd })) None
+from-vcd word = cond (bytes_eq word (codes "vcd")) (Some (record { names = []; asks = λ given. Some Vcd })) (from-sat word)
 
 abbrev from-compile : List ℕ → Option Command
 from-compile word = cond (bytes_eq word (codes "compile")) (Some (record { names = []; asks = λ given. Some Compile })) (from-vcd word)
@@ -162,7 +175,8 @@ named-accepted word =
     (choose (bytes_eq word (codes "dump")) (Some (record { names = dump_names; asks = dump_of })) (from-check word) dump-accepted
     (choose (bytes_eq word (codes "check")) (Some (record { names = []; asks = λ given. Some Check })) (from-compile word) (λ given. tt)
     (choose (bytes_eq word (codes "compile")) (Some (record { names = []; asks = λ given. Some Compile })) (from-vcd word) (λ given. tt)
-    (choose (bytes_eq word (codes "vcd")) (Some (record { names = []; asks = λ given. Some Vcd })) None (λ given. tt) tt))))))
+    (choose (bytes_eq word (codes "vcd")) (Some (record { names = []; asks = λ given. Some Vcd })) (from-sat word) (λ given. tt)
+    (choose (bytes_eq word (codes "sat")) (Some (record { names = sat_names; asks = sat_of })) None sat-accepted tt)))))))
 
 pub given-accepted : (names words : List (List ℕ)) (asks : List Given → Option Asked) → ((given : List Given) → IfSome (asks given) IsAccepted)
     → IfSome (if_read (given_of names words) asks) IsAccepted

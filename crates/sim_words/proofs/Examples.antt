@@ -5,8 +5,9 @@ use Rattle.hex.proofs.OnLiterals.{hex_on_literals}
 use Rattle.rtio_core.specs.declared.data.Config.{Config}
 use Rattle.run_schedule.specs.Schedules.{Lockstep, Letters}
 use Rattle.run_schedule.specs.declared.schedule.Step.TheVariants.{Cpu, Tick}
+use Rattle.sat_rounds.specs.declared.letters.Letter.TheVariants as letter
 use Rattle.option_values.specs.Lists.{no_holds}
-use Rattle.sim_words.specs.declared.asked.Asked.TheVariants.{Sim, Generated, Check, Compile, Exec, Gen, Dump, Vcd}
+use Rattle.sim_words.specs.declared.asked.Asked.TheVariants.{Sim, Generated, Check, Compile, Exec, Gen, Dump, Vcd, Sat}
 use Rattle.sim_words.specs.declared.asked.Options.{Options}
 use Rattle.sim_words.specs.Asked.{asked_of}
 
@@ -106,3 +107,20 @@ falling-edges = refl
 same-names : asked_of (codes "sim" ∷ codes "--recordings=p:02000000000a00000000000000,p:02000000000a00000000000000" ∷ []) ≡ None
 unfolding hex_on_literals
 same-names = refl
+
+sent : asked_of (codes "sat" ∷ [])
+    ≡ Some (Sat (with_config settings) (letter.Send ∷ letter.Deliver ∷ letter.Tick ∷ letter.Grant ∷ letter.Absorb ∷ []))
+sent = refl
+
+sent-by-letters : asked_of (codes "sat" ∷ codes "--link" ∷ codes "ttsdga" ∷ codes "--depth=1" ∷ [])
+    ≡ Some (Sat (with_config (record settings { depth = 1 })) (letter.Tick ∷ letter.Tick ∷ letter.Send ∷ letter.Deliver ∷ letter.Grant ∷ letter.Absorb ∷ []))
+sent-by-letters = refl
+
+no-absorb : asked_of (codes "sat" ∷ codes "--link=sdtg" ∷ []) ≡ None
+no-absorb = refl
+
+horizon-of-sent : asked_of (codes "sat" ∷ codes "--horizon=8" ∷ []) ≡ None
+horizon-of-sent = refl
+
+link-of-sim : asked_of (codes "sim" ∷ codes "--link=sdtga" ∷ []) ≡ None
+link-of-sim = refl

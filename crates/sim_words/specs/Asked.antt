@@ -1,18 +1,20 @@
 -- What the words of `artiq_sim` ask.
-use Rattle.std.specs.Prelude.{ℕ, ◌≤◌, Bool, true, false, List, [], ◌∷◌, ◌++◌, is_some, Option, Some, None, IfSome, IsTrue, option_map, option_and_then, bytes_eq, codes, if◌then◌else◌}
+use Rattle.std.specs.Prelude.{ℕ, ◌≤◌, Bool, true, false, List, [], ◌∷◌, ◌++◌, is_some, Option, Some, None, IfSome, IsTrue, option_map, option_and_then, bytes_eq, unwrap_or, codes, if◌then◌else◌}
 use Rattle.std.specs.Bool.{then_some}
 use Rattle.std.specs.Option.{option_map_or}
 use Rattle.rtio_types.specs.declared.event.Edge.{Edge}
 use Rattle.rtio_core.specs.declared.data.Config.{Config}
 use Rattle.rtio_core.specs.declared.named.Named.{Named}
 use Rattle.rtio_core.specs.Entries.{is_config_ok}
+use Rattle.sat_rounds.specs.declared.letters.Letter.{Letter}
+use Rattle.sat_rounds.specs.Words.{word_of}
 use Rattle.run_schedule.specs.Schedules.{ScheduleState, Lockstep}
 use Rattle.option_values.specs.Numbers.{most_number, number_in}
 use Rattle.option_values.specs.Schedules.{schedule_of}
 use Rattle.option_values.specs.Lists.{edges_of, holds_of, no_holds, recordings_of}
 use Rattle.sim_words.specs.Given.{Given, given_of, value_of}
 use Rattle.sim_words.specs.declared.asked.Asked.{Asked}
-use Rattle.sim_words.specs.declared.asked.Asked.TheVariants.{Sim, Generated, Check, Compile, Exec, Gen, Dump, Vcd}
+use Rattle.sim_words.specs.declared.asked.Asked.TheVariants.{Sim, Generated, Check, Compile, Exec, Gen, Dump, Vcd, Sat}
 use Rattle.sim_words.specs.declared.asked.Options.{Options}
 
 -- ---- one option
@@ -58,6 +60,10 @@ recordings_given given = read_or [] recordings_of (value_of (codes "recordings")
 -- `--dma lines` asks for the recordings that are kept
 abbrev pub dma_of : List Given → Option Bool
 dma_of given = read_or false (λ text. then_some (bytes_eq text (codes "lines")) true) (value_of (codes "dma") given)
+
+-- the word of a link's rounds
+abbrev pub link_given : List Given → Option (List Letter)
+link_given given = word_of (unwrap_or (value_of (codes "link") given) (codes "sdtga"))
 
 -- a number of no quantity
 abbrev pub any_number : List ℕ → Option ℕ
@@ -105,6 +111,11 @@ exec_names = dump_names ++ codes "dma" ∷ []
 abbrev pub sim_names : List (List ℕ)
 sim_names = codes "gen" ∷ exec_names
 
+-- the names of the options of a run whose events are sent over a link
+abbrev pub sat_names : List (List ℕ)
+sat_names =
+    codes "cost" ∷ codes "lanes" ∷ codes "depth" ∷ codes "budget" ∷ codes "schedule" ∷ codes "edges" ∷ codes "link" ∷ []
+
 abbrev pub gen_names : List (List ℕ)
 gen_names = codes "number" ∷ []
 
@@ -125,6 +136,10 @@ exec_of given = if_read (options_of given) (λ options. option_map (λ dma. Exec
 abbrev pub dump_of : List Given → Option Asked
 dump_of given = option_map (λ options. Dump options) (options_of given)
 
+-- a kernel text is run, and the events that its core put out are sent over a link
+abbrev pub sat_of : List Given → Option Asked
+sat_of given = if_read (options_of given) (λ options. option_map (λ word. Sat options word) (link_given given))
+
 -- the generated kernel of a number, which has to be given
 abbrev pub gen_of : List Given → Option Asked
 gen_of given = option_map (λ number. Gen number) (option_and_then any_number (value_of (codes "number") given))
@@ -143,6 +158,7 @@ command_named word =
     else if bytes_eq word (codes "check") then Some (record { names = []; asks = λ given. Some Check })
     else if bytes_eq word (codes "compile") then Some (record { names = []; asks = λ given. Some Compile })
     else if bytes_eq word (codes "vcd") then Some (record { names = []; asks = λ given. Some Vcd })
+    else if bytes_eq word (codes "sat") then Some (record { names = sat_names; asks = sat_of })
     else None
 
 -- what the words ask: the first is the command, the others are its options
@@ -163,6 +179,7 @@ options_in Check = None
 options_in Compile = None
 options_in (Gen number) = None
 options_in Vcd = None
+options_in (Sat options word) = Some options
 
 -- a core can be made with the settings, and the budget is of 1 to 1,000,000 units
 abbrev pub IsAccepted : Asked → Type 0

@@ -2,6 +2,7 @@
 
 use rtio_core::Config;
 use run_schedule::Schedule;
+use sat_rounds::LinkWord;
 
 /// How a session runs.
 #[derive(Debug, Drop)]
@@ -33,4 +34,7 @@ pub enum Asked {
     Dump { options: Options },
     /// `vcd`: such bytes are written as a waveform text.
     Vcd,
+    /// `sat`: a kernel text is run, and the events that its core put out are sent over a link, in rounds of the word's
+    /// letters.
+    Sat { options: Options, word: LinkWord },
 }

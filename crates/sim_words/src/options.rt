@@ -5,7 +5,7 @@ ghost use Rattle.option_values.specs.Readings.{Reads};
 ghost use Rattle.option_values.specs.Numbers.{number_in};
 ghost use Rattle.sim_words.specs.Given.{value_of};
 ghost use Rattle.sim_words.specs.Matches.{HasOptions, given_in};
-ghost use Rattle.sim_words.specs.Asked.{budget_of, config_of, dma_of, edges_given, holds_given, horizon_of, most_horizon, options_of, read_or, recordings_given, schedule_given};
+ghost use Rattle.sim_words.specs.Asked.{budget_of, config_of, dma_of, edges_given, holds_given, horizon_of, link_given, most_horizon, options_of, read_or, recordings_given, schedule_given};
 
 use crate::asked::Options;
 use crate::given::value_of;
@@ -16,6 +16,7 @@ use option_values::{
 use rtio_core::{Config, NamedList, config_ok};
 use rtio_types::EdgeList;
 use run_schedule::Schedule;
+use sat_rounds::LinkWord;
 use std::alloc::Global;
 
 const DEFAULT_LANES: u64 = 8;
@@ -60,6 +61,17 @@ pub fn read_dma(given: &ArgMatches<'_>) -> Option<bool>
     match value_of(given, "dma") {
         None => Some(false),
         Some(text) => (text == "lines").then_some(true),
+    }
+}
+
+/// The word of a link's rounds.
+pub fn read_link(given: &ArgMatches<'_>) -> Option<LinkWord>
+    requires { HasOptions given.now }
+    ensures { result ≡ link_given (given_in given.now) }
+{
+    match value_of(given, "link") {
+        None => LinkWord::read(b"sdtga"),
+        Some(text) => LinkWord::read(text.as_bytes()),
     }
 }
 

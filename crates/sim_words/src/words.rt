@@ -4,11 +4,11 @@ ghost use Rattle.std.specs.Prelude.{◌≡◌, ◌≤◌, IfOk, None, Some, List
 ghost use Rattle.option_values.specs.Readings.{Reads};
 ghost use Rattle.sim_words.specs.Given.{given_of};
 ghost use Rattle.sim_words.specs.Matches.{HasOptions, given_in};
-ghost use Rattle.sim_words.specs.Asked.{IsAccepted, asked_of, dump_of, dump_names, exec_of, exec_names, gen_of, gen_names, if_read, sim_of, sim_names};
+ghost use Rattle.sim_words.specs.Asked.{IsAccepted, asked_of, dump_of, dump_names, exec_of, exec_names, gen_of, gen_names, if_read, sat_of, sat_names, sim_of, sim_names};
 
 use crate::asked::Asked;
 use crate::given::{read_given, value_of};
-use crate::options::{read_dma, read_options};
+use crate::options::{read_dma, read_link, read_options};
 use clap::ArgMatches;
 use option_values::{MOST_NUMBER, ValueEnd, read_number};
 use std::alloc::Global;
@@ -25,6 +25,10 @@ const SIM_NAMES: [&str; 11] = [
     "hold",
     "recordings",
     "dma",
+];
+
+const SAT_NAMES: [&str; 7] = [
+    "cost", "lanes", "depth", "budget", "schedule", "edges", "link",
 ];
 
 const GEN_NAMES: [&str; 1] = ["number"];
@@ -50,6 +54,7 @@ pub fn read_words(alloc: Global, words: &[String]) -> Result<Asked, ValueEnd>
         "check" => read_bare(alloc, words, Asked::Check),
         "compile" => read_bare(alloc, words, Asked::Compile),
         "vcd" => read_bare(alloc, words, Asked::Vcd),
+        "sat" => read_sat(alloc, words),
         _ => Err(ValueEnd::Refused),
     }
 }
@@ -80,6 +85,16 @@ fn read_dump(alloc: Global, words: &[String]) -> Result<Asked, ValueEnd>
 {
     match read_given(alloc, &SIM_NAMES[1..10], words) {
         Ok(given) => ask_dump(alloc, &given),
+        Err(end) => Err(end),
+    }
+}
+
+// The words behind `sat`.
+fn read_sat(alloc: Global, words: &[String]) -> Result<Asked, ValueEnd>
+    ensures { Reads (if_read (given_of sat_names (map string_bytes words.now)) sat_of) result }
+{
+    match read_given(alloc, &SAT_NAMES, words) {
+        Ok(given) => ask_sat(alloc, &given),
         Err(end) => Err(end),
     }
 }
@@ -142,6 +157,16 @@ fn ask_dump(alloc: Global, given: &ArgMatches<'_>) -> Result<Asked, ValueEnd>
 {
     let options = read_options(alloc, given)?;
     Ok(Asked::Dump { options })
+}
+
+// A kernel text is run, and the events that its core put out are sent over a link.
+fn ask_sat(alloc: Global, given: &ArgMatches<'_>) -> Result<Asked, ValueEnd>
+    requires { HasOptions given.now }
+    ensures { Reads (sat_of (given_in given.now)) result }
+{
+    let options = read_options(alloc, given)?;
+    let word = read_link(given).ok_or(ValueEnd::Refused)?;
+    Ok(Asked::Sat { options, word })
 }
 
 // The generated kernel of the number that is given.

@@ -1,4 +1,5 @@
 use Rattle.sim_program.proofs.Answering.{dumps, reports, sums}
+use Rattle.sim_program.proofs.Sending.{links}
 use Rattle.sim_program.proofs.answer.answer_to.Goals as goal
 
 pub returns-in-Sim : goal.returns-in-Sim
@@ -15,3 +16,8 @@ pub returns-in-Dump : goal.returns-in-Dump
 returns-in-Dump c =
     let told = rw c.deref-in-Dump.ensures.value at c.answer_by_run-in-Dump.ensures in
     rw c.in-Dump.is (dumps c.in-Dump.options c.args.text.items c.answer_by_run-in-Dump.result told)
+
+pub returns-in-Sat : goal.returns-in-Sat
+returns-in-Sat c =
+    let told = rw c.deref-in-Sat.ensures.value at c.answer_by_link.ensures in
+    rw c.in-Sat.is (links c.in-Sat.options c.in-Sat.word c.args.text.items c.answer_by_link.result told)

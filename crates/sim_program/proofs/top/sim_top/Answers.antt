@@ -252,3 +252,7 @@ returns-clause-complete g c =
     let same = same-asked _ c.in-Ok.asked asked c.in-Ok.ensures.ok is in
     let ends : IsEnd c.in-Ok.asked c.status_of.result = subst (λ n. IsEnd c.in-Ok.asked n) (sym c.status_of.ensures) (due-ends c.in-Ok.asked c.in-Ok-bytes_of.text.items c.in-Ok-Due.bytes.items _ h.0) in
     inl (subst (λ x. IsEnd x c.told-in-Ok-Due.result) same (ends-told c.in-Ok.asked c.told-in-Ok-Due.result c.status_of.result c.told-in-Ok-Due.ensures.answer ends (λ four. well.out (c.told-in-Ok-Due.ensures.cause four))))
+
+pub returns-in-Err-Memory-bytes_of-clause-write_fault : goal.returns-in-Err-Memory-bytes_of-clause-write_fault
+returns-in-Err-Memory-bytes_of-clause-write_fault g c =
+    λ four. inr (c.told-in-Err-Memory-bytes_of.ensures.cause four, record { refusal = memory; cause = tt; part = c.told-in-Err-Memory-bytes_of.ensures.part four }, refl)
