@@ -1,0 +1,72 @@
+-- Numbers within spans.
+use Rattle.std.proofs.Common.{◌≡◌, ◌^◌, Bool, true, false, List, [], ◌∷◌, ◌++◌, refl, arith}
+use Rattle.std.specs.Prelude.{ℤ, pos, negsuc, neg_ℤ, ◌+ℤ◌, ◌-ℤ◌, ◌≤ℤ◌, ◌&&◌, int_le, FitsSigned}
+use Rattle.std.specs.Int.{w64, int_wrap, int_max}
+use Rattle.std.specs.List.{AllZip}
+use Rattle.std.proofs.lemmas.Int.{int_wrap_fits, ints, clamps}
+use Rattle.std.proofs.lemmas.Bool.Decides.{Decides-int_eq}
+use Rattle.slack_meaning.specs.Spans.{Span, exactly, is_number, is_near, lies_near, span_sum, span_less, span_max}
+use Rattle.slack_law.proofs.Standing.{IsWithin}
+
+pub within-exactly : (n : ℤ) → IsWithin n (exactly n)
+within-exactly n = record { least = omega (arith, ints); greatest = omega (arith, ints) }
+
+-- a span that is a number is that number
+pub number-within : (n : ℤ) (span : Span) → is_number span ≡ true → IsWithin n span → span.least ≡ n
+number-within n span is h =
+    let same : span.least ≡ span.greatest = (Decides-int_eq span.least span.greatest).0 is in
+    let low = h.least in
+    let high = h.greatest in
+    omega (arith, ints, same, low, high)
+
+pub sum-within : (x y : ℤ) (a b : Span) → IsWithin x a → IsWithin y b → IsWithin (x +ℤ y) (span_sum a b)
+sum-within x y a b h k =
+    let one = h.least in
+    let two = h.greatest in
+    let three = k.least in
+    let four = k.greatest in
+    record { least = omega (arith, ints, one, three); greatest = omega (arith, ints, two, four) }
+
+pub less-within : (x y : ℤ) (a : Span) → IsWithin x a → IsWithin (x -ℤ y) (span_less a y)
+less-within x y a h =
+    let one = h.least in
+    let two = h.greatest in
+    record { least = omega (arith, ints, one); greatest = omega (arith, ints, two) }
+
+pub max-within : (x y : ℤ) (a b : Span) → IsWithin x a → IsWithin y b → IsWithin (int_max x y) (span_max a b)
+max-within x y a b h k =
+    let one = h.least in
+    let two = h.greatest in
+    let three = k.least in
+    let four = k.greatest in
+    record { least = omega (arith, ints, clamps, one, three); greatest = omega (arith, ints, clamps, two, four) }
+
+le-of : (a b : ℤ) → int_le a b ≡ true → a ≤ℤ b
+le-of a b h = grind (arith, ints, h)
+
+-- a number within a near span fits 64 bits
+fits-near : (n : ℤ) → neg_ℤ (pos (2 ^ 62)) ≤ℤ n → n ≤ℤ pos (2 ^ 62) → FitsSigned w64 n
+fits-near (pos n) low high = record { sfits = omega (arith, ints, high) }
+fits-near (negsuc n) low high = record { sfits = omega (arith, ints, low) }
+
+pub near-fits : (n : ℤ) (span : Span) → is_near span ≡ true → IsWithin n span → int_wrap w64 n ≡ n
+near-fits n span near h =
+    let low = h.least in
+    let high = h.greatest in
+    let ends = split (lies_near span.least) (lies_near span.greatest) near in
+    let parts = split (int_le (neg_ℤ (pos (2 ^ 62))) span.least) (int_le span.least (pos (2 ^ 62))) ends.0 in
+    let others = split (int_le (neg_ℤ (pos (2 ^ 62))) span.greatest) (int_le span.greatest (pos (2 ^ 62))) ends.1 in
+    let from = le-of (neg_ℤ (pos (2 ^ 62))) span.least parts.0 in
+    let to = le-of span.greatest (pos (2 ^ 62)) others.1 in
+    int_wrap_fits w64 n (fits-near n (omega (arith, ints, low, from)) (omega (arith, ints, high, to)))
+  where
+    split : (a b : Bool) → (a && b) ≡ true → (a ≡ true) × (b ≡ true)
+    split true b h = (refl, h)
+    split false b h = absurd (cc)
+
+-- lists that go together, with one more behind each
+pub zip-push : {A B : Type 0} (R : A → B → Type 0) (xs : List A) (ys : List B) (x : A) (y : B) → AllZip R xs ys → R x y → AllZip R (xs ++ x ∷ []) (ys ++ y ∷ [])
+zip-push R [] [] x y h new = (new, tt)
+zip-push R (a ∷ xs) (b ∷ ys) x y h new = (h.0, zip-push R xs ys x y h.1 new)
+zip-push R [] (b ∷ ys) x y h new = absurd h
+zip-push R (a ∷ xs) [] x y h new = absurd h
