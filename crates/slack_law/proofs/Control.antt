@@ -20,8 +20,10 @@ use Rattle.timeline_sem.specs.Statements.{when, either, after_turn, turn, while_
 use Rattle.timeline_sem.specs.Programs.{leave_function}
 use Rattle.timeline_sem.proofs.Keeps.{keeps_stop, keeps_skip}
 use Rattle.timeline_sem.proofs.KeepsWhole.{AskedGrow, asked_grow, kept_final, keeps_after_turn, keeps_turn, keeps_while_turns, keeps_while, keeps_end_recording, keeps_recorded, keeps_attempt}
-use Rattle.slack_meaning.specs.Spans.{Span, exactly}
-use Rattle.slack_meaning.specs.Actions.{SpanEvent, SpanRecording, Held}
+use Rattle.slack_meaning.specs.declared.span.Span.{Span}
+use Rattle.slack_meaning.specs.Spans.{exactly}
+use Rattle.slack_meaning.specs.declared.span.SpanEvent.{SpanEvent}
+use Rattle.slack_meaning.specs.Actions.{SpanRecording, Held}
 use Rattle.slack_meaning.specs.Actions as S
 use Rattle.slack_meaning.specs.Answers.{save}
 use Rattle.slack_meaning.specs.Expressions as E

@@ -22,7 +22,8 @@ use Rattle.timeline_sem.specs.Timeline.{delay, tell, no_value, first_of_list}
 use Rattle.timeline_sem.specs.Expressions.{Callee, number_in_value, list_in_value, read, read_element, operate, array_in, array_or_number, dataset_value, text_in, perform_builtin, perform_call, perform_method, unless_decided, expression, arguments}
 use Rattle.timeline_sem.proofs.Keeps.{keeps_bind, keeps_then, keeps_give, keeps_tell, keeps_read_element, keeps_operate, keeps_perform, keeps_builtin, keeps_expression, keeps_arguments}
 use Rattle.timeline_sem.proofs.KeepsWhole.{AskedGrow, asked_grow}
-use Rattle.slack_meaning.specs.Spans.{Span, exactly}
+use Rattle.slack_meaning.specs.declared.span.Span.{Span}
+use Rattle.slack_meaning.specs.Spans.{exactly}
 use Rattle.slack_meaning.specs.Actions.{Held}
 use Rattle.slack_meaning.specs.Actions as S
 use Rattle.slack_meaning.specs.Answers.{answered}

@@ -17,7 +17,8 @@ use Rattle.timeline_sem.specs.Laws.{final}
 use Rattle.timeline_sem.specs.Programs.{initial_value, initial_values, leave_function, optional_body, function_call}
 use Rattle.timeline_sem.specs.Statements.{block}
 use Rattle.timeline_sem.proofs.KeepsWhole.{AskedGrow, asked_grow, keeps_body, keeps_function_call}
-use Rattle.slack_meaning.specs.Spans.{Span, exactly}
+use Rattle.slack_meaning.specs.declared.span.Span.{Span}
+use Rattle.slack_meaning.specs.Spans.{exactly}
 use Rattle.slack_meaning.specs.Actions.{Held}
 use Rattle.slack_meaning.specs.Actions as S
 use Rattle.slack_meaning.specs.Expressions as E

@@ -21,8 +21,9 @@ use Rattle.timeline_sem.specs.Actions.{State, Reason, break, continue, return, r
 use Rattle.timeline_sem.specs.Laws.{final}
 use Rattle.timeline_sem.specs.Programs.{meaning_of, opening, call_room, optional_body, function_call}
 use Rattle.slack_meaning.specs.declared.verdict.Verdict.TheVariants.{Yes}
+use Rattle.slack_meaning.specs.declared.verdict.Stopped.{Stopped}
 use Rattle.slack_meaning.specs.declared.verdict.Stopped.TheVariants as W
-use Rattle.slack_meaning.specs.Spans.{Span}
+use Rattle.slack_meaning.specs.declared.span.Span.{Span}
 use Rattle.slack_meaning.specs.Actions as S
 use Rattle.slack_meaning.specs.Programs as G
 use Rattle.slack_meaning.specs.Programs.{most_units, slack_verdict}
@@ -48,7 +49,7 @@ requests-of-meaning : (c : Completion ℤ) → (meaning_of c).requests ≡ (fina
 requests-of-meaning (normal v s) = refl
 requests-of-meaning (early reason s) = refl
 
-not-yes : (stopped : S.Stopped) (outs : ℕ) → G.verdict_where stopped ≡ Yes outs → ⊥
+not-yes : (stopped : Stopped) (outs : ℕ) → G.verdict_where stopped ≡ Yes outs → ⊥
 not-yes (W.TooLate n e limit) outs is = absurd (cc)
 not-yes (W.Unknown n why) outs is = absurd (cc)
 

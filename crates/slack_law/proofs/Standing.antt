@@ -16,8 +16,9 @@ use Rattle.rtio_core.specs.declared.data.Config.{Config}
 use Rattle.rtio_core.specs.declared.data.Entry.{Entry}
 use Rattle.rtio_core.specs.Entries.{judged_history, kept_after, last_at, last_saved, limit as limit_of, open_session}
 use Rattle.timeline_sem.specs.Actions.{State, Reason, break, continue, return, raised, budget, unanswered, Completion, normal, early}
-use Rattle.slack_meaning.specs.Spans.{Span}
-use Rattle.slack_meaning.specs.Actions.{SpanEvent, SpanRecording, Held}
+use Rattle.slack_meaning.specs.declared.span.Span.{Span}
+use Rattle.slack_meaning.specs.declared.span.SpanEvent.{SpanEvent}
+use Rattle.slack_meaning.specs.Actions.{SpanRecording, Held}
 use Rattle.slack_meaning.specs.Actions as S
 use Rattle.slack_meaning.specs.Answers.{at_hand}
 use Rattle.slack_law.specs.Promise.{Answered, requests_of, replies_of}

@@ -10,8 +10,10 @@ use Rattle.timeline_sem.specs.Actions.{State, break, continue, return, raised, b
 use Rattle.timeline_sem.specs.Laws.{final}
 use Rattle.timeline_sem.proofs.Keeps.{keeps_then, keeps_give, keeps_stop, keeps_skip, keeps_take_unit, keeps_cursor_now, keeps_set_cursor}
 use Rattle.timeline_sem.proofs.KeepsWhole.{AskedGrow, asked_grow}
-use Rattle.slack_meaning.specs.Spans.{Span, exactly, is_number, is_near, span_sum}
-use Rattle.slack_meaning.specs.Actions.{SpanEvent, Held}
+use Rattle.slack_meaning.specs.declared.span.Span.{Span}
+use Rattle.slack_meaning.specs.Spans.{exactly, is_number, is_near, span_sum}
+use Rattle.slack_meaning.specs.declared.span.SpanEvent.{SpanEvent}
+use Rattle.slack_meaning.specs.Actions.{Held}
 use Rattle.slack_meaning.specs.Actions as S
 use Rattle.slack_meaning.specs.Timeline.{moved_if, moved}
 use Rattle.slack_law.specs.Promise.{Answered}

@@ -19,8 +19,9 @@ use Rattle.timeline_sem.specs.Timeline.{delay, event_at, tell, with_event, appen
 use Rattle.timeline_sem.proofs.Keeps.{Kept, keeps_bind, keeps_then, keeps_give, keeps_set_cursor, keeps_delay, keeps_append, keeps_output, keeps_play_events, keeps_tell, keeps_play_reply}
 use Rattle.timeline_sem.proofs.KeepsWhole.{AskedGrow, asked_grow}
 use Rattle.slack_meaning.specs.declared.verdict.OpenKind.{OpenKind}
-use Rattle.slack_meaning.specs.Spans.{Span}
-use Rattle.slack_meaning.specs.Actions.{SpanEvent, SpanRecording}
+use Rattle.slack_meaning.specs.declared.span.Span.{Span}
+use Rattle.slack_meaning.specs.declared.span.SpanEvent.{SpanEvent}
+use Rattle.slack_meaning.specs.Actions.{SpanRecording}
 use Rattle.slack_meaning.specs.Actions as S
 use Rattle.slack_meaning.specs.Answers.{submit, fetch}
 use Rattle.slack_meaning.specs.Timeline as L

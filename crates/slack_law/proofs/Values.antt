@@ -20,7 +20,8 @@ use Rattle.timeline_sem.specs.Numbers.{exact_result}
 use Rattle.timeline_sem.specs.Expressions.{value_of, with_value, number_in_value, list_in_value, read, write as write_name, or_raise, place_in, with_item, read_element, write_element, operate}
 use Rattle.timeline_sem.proofs.Keeps.{keeps_bind, keeps_give, keeps_read, keeps_write, keeps_or_raise, keeps_operate}
 use Rattle.timeline_sem.proofs.KeepsWhole.{AskedGrow, asked_grow}
-use Rattle.slack_meaning.specs.Spans.{Span, exactly, is_number, is_near, span_sum, span_less}
+use Rattle.slack_meaning.specs.declared.span.Span.{Span}
+use Rattle.slack_meaning.specs.Spans.{exactly, is_number, is_near, span_sum, span_less}
 use Rattle.slack_meaning.specs.Actions.{Held}
 use Rattle.slack_meaning.specs.Actions as S
 use Rattle.slack_meaning.specs.Expressions as E

@@ -5,7 +5,8 @@ use Rattle.std.specs.Int.{w64, int_wrap, int_max}
 use Rattle.std.specs.List.{AllZip}
 use Rattle.std.proofs.lemmas.Int.{int_wrap_fits, ints, clamps}
 use Rattle.std.proofs.lemmas.Bool.Decides.{Decides-int_eq}
-use Rattle.slack_meaning.specs.Spans.{Span, exactly, is_number, is_near, lies_near, span_sum, span_less, span_max}
+use Rattle.slack_meaning.specs.declared.span.Span.{Span}
+use Rattle.slack_meaning.specs.Spans.{exactly, is_number, is_near, lies_near, span_sum, span_less, span_max}
 use Rattle.slack_law.proofs.Standing.{IsWithin}
 
 pub within-exactly : (n : ℤ) → IsWithin n (exactly n)
