@@ -11,7 +11,8 @@ use Rattle.slack_meaning.specs.declared.verdict.Stopped.TheVariants as W
 use Rattle.slack_meaning.specs.declared.span.SpanEvent.{SpanEvent}
 use Rattle.slack_meaning.specs.Actions.{SpanRecording, State}
 use Rattle.slack_meaning.specs.Answers.{counted, answered, earliest, limit_at, submit_if, submit, await, lead_if, read_lead, is_known, at_hand, with_recording, remembering, save_if, save, erase_of, erase, fetch_of, fetch}
-use Rattle.slack_order.proofs.Inside.{IsInside, cycle-rises}
+use Rattle.slack_meaning.proofs.Spans.{cycle-rises}
+use Rattle.slack_order.proofs.Inside.{IsInside}
 use Rattle.slack_order.proofs.Standing.{IsEventInside, IsRecordingInside, IsThere, IsNamed, AreSavedInside, LiesInside, Meets, stopped, normally}
 use Rattle.slack_order.proofs.Following.{Follows, FollowsPart, Any, follows_then, follows_give, follows_open}
 

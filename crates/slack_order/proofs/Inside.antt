@@ -6,6 +6,7 @@ use Rattle.std.proofs.lemmas.Int.{int_wrap_fits, ints, clamps}
 use Rattle.std.proofs.lemmas.Bool.Decides.{Decides-int_eq}
 use Rattle.rtio_types.specs.Time.{cycle_of_stamp}
 use Rattle.slack_meaning.specs.declared.span.Span.{Span}
+use Rattle.slack_meaning.proofs.Spans.{both, near-ends, fits-near}
 use Rattle.slack_meaning.specs.Spans.{exactly, is_number, is_near, lies_near, span_sum, span_less, span_max}
 
 -- the greatest end may be less
@@ -66,32 +67,12 @@ max-inside a b c d h k =
       greatest = omega (arith, ints, clamps, greatest, greatest');
     }
 
--- the parts of a test
-pub both : (p q : Bool) → (p && q) ≡ true → (p ≡ true) × (q ≡ true)
-both true q is = (refl, is)
-both false q is = absurd (cc)
-
 pub and-true : (p q : Bool) → p ≡ true → q ≡ true → (p && q) ≡ true
 and-true true q is also = also
 and-true false q is also = absurd (cc)
 
-le-of : (a b : ℤ) → int_le a b ≡ true → a ≤ℤ b
-le-of a b h = grind (arith, ints, h)
-
 le-to : (a b : ℤ) → a ≤ℤ b → int_le a b ≡ true
 le-to a b h = grind (arith, ints, h)
-
--- the ends of a span that doesn't reach too far
-pub record IsNear (span : Span) : Type 0 where
-  pub from : neg_ℤ (pos (2 ^ 62)) ≤ℤ span.least
-  pub to : span.greatest ≤ℤ pos (2 ^ 62)
-
-near-ends : (span : Span) → is_near span ≡ true → IsNear span
-near-ends span near =
-    let ends = both (lies_near span.least) (lies_near span.greatest) near in
-    let first = both (int_le (neg_ℤ (pos (2 ^ 62))) span.least) (int_le span.least (pos (2 ^ 62))) ends.0 in
-    let last = both (int_le (neg_ℤ (pos (2 ^ 62))) span.greatest) (int_le span.greatest (pos (2 ^ 62))) ends.1 in
-    record { from = le-of (neg_ℤ (pos (2 ^ 62))) span.least first.0; to = le-of span.greatest (pos (2 ^ 62)) last.1 }
 
 -- a span inside one that doesn't reach too far doesn't either
 pub near-inside : (u v : Span) → IsInside u v → is_near v ≡ true → is_near u ≡ true
@@ -129,11 +110,6 @@ reach-inside u v h reach = by (is_number v) refl
     by true is = first-of (is_number u) (is_near u) (number-inside u v h is)
     by false isnt = either-of (is_number u) (is_near u) (near-inside u v h (rest-of (is_number v) (is_near v) isnt reach))
 
--- a number from -2^62 to 2^62 fits 64 bits
-fits-near : (n : ℤ) → neg_ℤ (pos (2 ^ 62)) ≤ℤ n → n ≤ℤ pos (2 ^ 62) → FitsSigned w64 n
-fits-near (pos n) from to = record { sfits = omega (arith, ints, to) }
-fits-near (negsuc n) from to = record { sfits = omega (arith, ints, from) }
-
 -- a number where the other run has a span that doesn't reach too far: it wraps to itself
 pub wrapped-inside : (u v : Span) → IsInside u v → is_near v ≡ true → IsInside (exactly (int_wrap w64 u.least)) v
 wrapped-inside u v h near =
@@ -146,9 +122,3 @@ wrapped-inside u v h near =
     let fits : FitsSigned w64 u.least = fits-near u.least (omega (arith, ints, from, least)) (omega (arith, ints, to, ordered, greatest)) in
     let inside : IsInside (exactly u.least) v = record { least = least; ordered = omega (arith, ints); greatest = omega (arith, ints, ordered, greatest) } in
     subst (λ n. IsInside (exactly n) v) (sym (int_wrap_fits w64 u.least fits)) inside
-
--- cycles rise with stamps
-pub cycle-rises : (x y : ℤ) → x ≤ℤ y → cycle_of_stamp x ≤ cycle_of_stamp y
-cycle-rises (pos m) (pos n) h = let le : m ≤ n = omega (arith, ints, h) in omega (arith, le)
-cycle-rises (negsuc m) y h = omega arith
-cycle-rises (pos m) (negsuc n) h = absurd (omega (arith, ints, h))

@@ -17,7 +17,8 @@ use Rattle.slack_meaning.specs.Spans.{exactly, is_number, is_near, span_sum, spa
 use Rattle.slack_meaning.specs.Actions.{Held, number, list, give, number_if, span_if, within_near, ◌>>=◌}
 use Rattle.slack_meaning.specs.Expressions.{held_by, with_held, span_in, spans_in, are_numbers, read, write as write_name, or_raise, place_in, with_item, read_element, write_element, less, operate_spans, operate_numbers, operate_if, operate}
 use Rattle.slack_meaning.specs.Timeline.{moved_if, moved}
-use Rattle.slack_order.proofs.Inside.{IsInside, inside-exactly, number-inside, sum-inside, less-inside, wrapped-inside, both, and-true}
+use Rattle.slack_meaning.proofs.Spans.{both}
+use Rattle.slack_order.proofs.Inside.{IsInside, inside-exactly, number-inside, sum-inside, less-inside, wrapped-inside, and-true}
 use Rattle.slack_order.proofs.Standing.{AreInside, IsHeldInside, IsThere, AreNamesInside, by_raising, normally}
 use Rattle.slack_order.proofs.Following.{Follows, FollowsPart, follows_bind, follows_same, follows_give, follows_stop, follows_open, with-values, follows_number, follows_near}
 
