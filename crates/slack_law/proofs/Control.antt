@@ -1,5 +1,5 @@
 -- Loops, record blocks, handlers and the ends of functions follow those of the run without a core.
-use Rattle.std.proofs.Common.{◌≡◌, ℕ, zero, suc, ◌≤◌, Bool, true, false, List, [], ◌∷◌, map, Option, Some, None, refl, sym, subst, arith, append-nil}
+use Rattle.std.proofs.Common.{ℕ, zero, suc, ◌≤◌, Bool, true, false, List, [], ◌∷◌, map, Option, Some, None, sym, arith, append-nil}
 use Rattle.std.specs.Prelude.{ℤ, pos, ◌+ℤ◌, ⊤, unwrap_or}
 use Rattle.rtio_types.specs.declared.event.Event.{Event}
 use Rattle.rtio_types.specs.declared.outcome.Exc.{Exc}
@@ -13,7 +13,7 @@ use Rattle.rtio_core.specs.declared.data.Config.{Config}
 use Rattle.rtio_core.specs.declared.data.Entry.{Entry}
 use Rattle.rtio_core.specs.Lawful.{IsLawfulAfter}
 use Rattle.rtio_core.proofs.Settings.{AreInRange}
-use Rattle.timeline_sem.specs.Actions.{State, Reason, break, continue, return, raised, budget, unanswered, Completion, normal, early, Action, stop, take_unit_of, ask, ◌>>◌}
+use Rattle.timeline_sem.specs.Actions.{State, break, continue, return, raised, budget, unanswered, Completion, normal, early, Action, stop, take_unit_of, ask, ◌>>◌}
 use Rattle.timeline_sem.specs.Laws.{final}
 use Rattle.timeline_sem.specs.Expressions.{write as write_name}
 use Rattle.timeline_sem.specs.Statements.{when, either, after_turn, turn, while_turns, while_loop, for_turns, leave_recording, save_after, end_recording, recorded, after_try, attempt}
@@ -30,7 +30,7 @@ use Rattle.slack_meaning.specs.Expressions as E
 use Rattle.slack_meaning.specs.Statements as C
 use Rattle.slack_meaning.specs.Programs as G
 use Rattle.slack_law.specs.Promise.{Answered}
-use Rattle.slack_law.proofs.Standing.{IsWithin, AreEventsWithin, IsRecordingWithin, AreNamesWithin, IsCollectedWithin, AreInTimeFor, Agree, asked_entry, Stands, by_budget, by_silence, by_break, by_continue, by_return, by_raising, Meets, stopped, normally, alike, only}
+use Rattle.slack_law.proofs.Standing.{IsWithin, AreEventsWithin, IsRecordingWithin, AreNamesWithin, IsCollectedWithin, Agree, asked_entry, Stands, by_budget, by_silence, by_break, by_continue, by_return, by_raising, Meets, stopped, normally, alike, only}
 use Rattle.slack_law.proofs.Following.{Grows, grown, agree-grown, Follows, after, safe, follows_bind}
 use Rattle.slack_law.proofs.Asking.{follows_ask}
 use Rattle.slack_law.proofs.Answering.{Any}

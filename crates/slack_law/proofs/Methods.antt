@@ -21,7 +21,6 @@ use Rattle.slack_meaning.specs.declared.verdict.OpenKind.{OpenKind}
 use Rattle.slack_meaning.specs.declared.verdict.OpenKind.TheVariants as K
 use Rattle.slack_meaning.specs.declared.span.Span.{Span}
 use Rattle.slack_meaning.specs.Spans.{exactly, span_max}
-use Rattle.slack_meaning.specs.declared.span.SpanEvent.{SpanEvent}
 use Rattle.slack_meaning.specs.Actions.{SpanRecording}
 use Rattle.slack_meaning.specs.Actions as S
 use Rattle.slack_meaning.specs.Answers.{await, read_lead, erase}

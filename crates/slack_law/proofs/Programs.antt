@@ -22,7 +22,6 @@ use Rattle.slack_meaning.specs.Spans.{exactly}
 use Rattle.slack_meaning.specs.Actions.{Held}
 use Rattle.slack_meaning.specs.Actions as S
 use Rattle.slack_meaning.specs.Expressions as E
-use Rattle.slack_meaning.specs.Statements as C
 use Rattle.slack_meaning.specs.Programs as G
 use Rattle.slack_law.specs.Promise.{Answered}
 use Rattle.slack_law.proofs.Standing.{IsWithin, AreWithin, IsValueWithin, AreNamesWithin, asked_entry}
