@@ -1,12 +1,11 @@
 -- A span inside another one that has the same least end.
-use Rattle.std.proofs.Common.{◌≡◌, ◌^◌, ◌≤◌, Bool, true, false, refl, sym, subst, arith}
-use Rattle.std.specs.Prelude.{ℤ, pos, negsuc, neg_ℤ, ◌≤ℤ◌, ◌&&◌, ◌||◌, int_le, FitsSigned}
+use Rattle.std.proofs.Common.{◌≡◌, ◌^◌, Bool, true, false, refl, sym, subst, arith}
+use Rattle.std.specs.Prelude.{ℤ, pos, neg_ℤ, ◌≤ℤ◌, ◌&&◌, ◌||◌, int_le, FitsSigned}
 use Rattle.std.specs.Int.{w64, int_wrap}
 use Rattle.std.proofs.lemmas.Int.{int_wrap_fits, ints, clamps}
 use Rattle.std.proofs.lemmas.Bool.Decides.{Decides-int_eq}
-use Rattle.rtio_types.specs.Time.{cycle_of_stamp}
 use Rattle.slack_meaning.specs.declared.span.Span.{Span}
-use Rattle.slack_meaning.proofs.Spans.{both, near-ends, fits-near}
+use Rattle.slack_meaning.proofs.Spans.{near-ends, fits-near}
 use Rattle.slack_meaning.specs.Spans.{exactly, is_number, is_near, lies_near, span_sum, span_less, span_max}
 
 -- the greatest end may be less
