@@ -1,0 +1,96 @@
+// Operators.
+
+ghost use Rattle.std.specs.Prelude.{◌≡◌};
+ghost use Rattle.slack_meaning.specs.Actions as A;
+ghost use Rattle.slack_meaning.specs.Expressions.{operate, operate_numbers, operate_spans};
+ghost use Rattle.slack_state.specs.Does.{DoesAlways};
+ghost use Rattle.timeline_sem.specs.Statements.{operator_of};
+
+use kern_calls::ValueType;
+use kern_syntax::{Augment, BinaryOperator};
+use meaning_numbers::operated;
+use rtio_types::Exc;
+use slack_meaning::{OpenKind, Span};
+use slack_state::{Reason, State, are_both_numbers, exactly, less, sum};
+
+/// The operator of an augmented assignment.
+pub fn operator_of(operator: Augment) -> BinaryOperator
+    ensures { result ≡ operator_of operator }
+{
+    match operator {
+        Augment::Add => BinaryOperator::Add,
+        Augment::Subtract => BinaryOperator::Subtract,
+    }
+}
+
+// The result of an operator on two numbers, wrapped at the width of its type. A divisor of 0 raises.
+fn operate_numbers(
+    operator: BinaryOperator,
+    kind: ValueType,
+    a: i64,
+    b: i64,
+) -> Result<Span, Reason>
+    ensures { (s : A.State) → DoesAlways result s (operate_numbers operator kind a b s) }
+{
+    match operated(operator, kind, a, b) {
+        Some(number) => Ok(exactly(number)),
+        None => Err(Reason::Raised(Exc::ZeroDivisionError)),
+    }
+}
+
+// A span less a number, if it doesn't reach too far.
+fn span_less(state: &State, a: Span, number: i64) -> Result<Span, Reason>
+    ensures { DoesAlways result state.now (A.within_near (span_less a number) state.now) }
+{
+    match less(a, number) {
+        Some(span) => Ok(span),
+        None => Err(state.unknown(OpenKind::Far)),
+    }
+}
+
+ghost use Rattle.slack_meaning.specs.Expressions.{less};
+ghost use Rattle.slack_meaning.specs.Spans.{span_less};
+
+// A number taken from a span.
+fn lessened(state: &State, a: Span, b: Span) -> Result<Span, Reason>
+    ensures { DoesAlways result state.now (less a b state.now) }
+{
+    let number = state.number(b)?;
+    span_less(state, a, number)
+}
+
+// An operator with a span.
+fn operate_spans(
+    state: &State,
+    operator: BinaryOperator,
+    kind: ValueType,
+    a: Span,
+    b: Span,
+) -> Result<Span, Reason>
+    ensures { DoesAlways result state.now (operate_spans operator kind a b state.now) }
+{
+    match (operator, kind) {
+        (BinaryOperator::Add, ValueType::Int64) => match sum(a, b) {
+            Some(span) => Ok(span),
+            None => Err(state.unknown(OpenKind::Far)),
+        },
+        (BinaryOperator::Subtract, ValueType::Int64) => lessened(state, a, b),
+        _ => Err(state.unknown(OpenKind::Span)),
+    }
+}
+
+/// The result of an operator. A span may be added to or lessened by a number, and a span may be added to a span.
+pub fn operate(
+    state: &State,
+    operator: BinaryOperator,
+    kind: ValueType,
+    a: Span,
+    b: Span,
+) -> Result<Span, Reason>
+    ensures { DoesAlways result state.now (operate operator kind a b state.now) }
+{
+    if are_both_numbers(a, b) {
+        return operate_numbers(operator, kind, a.least, b.least);
+    }
+    operate_spans(state, operator, kind, a, b)
+}
