@@ -1,10 +1,10 @@
 #!/usr/bin/env python3
 """The first run of a launcher, with a stand-in for rt: how near its build comes to the longest chain of crates.
 
-    python3 bench/first_run.py [PROGRAM [LANES]]      artiq_sim, on as many lanes as there are processors
+    python3 bench/first_run.py [PROGRAM [LANES [PACE]]]      artiq_sim, a lane for each processor, ten times as fast
 
-In place of proving a crate the stand-in waits for a sixtieth of the seconds that launch/times.txt has, and keeps to what rt
-does besides: it locks the crate and all that it stands on, and refuses to begin where one of these isn't built. Prints the
+In place of proving a crate the stand-in waits as long as launch/times.txt says, divided by PACE, and keeps to what rt does
+besides: it locks the crate and all that it stands on, and refuses to begin where one of these isn't built. Prints the
 time by the clock beside the longest chain and beside the work shared out evenly, and the same of a build that is interrupted
 half way and begun again, with what was begun twice. What it can't show is how checks hinder each other on one machine.
 """
@@ -22,7 +22,6 @@ ROOT = pathlib.Path(__file__).resolve().parent.parent
 sys.path.insert(0, str(ROOT / "launch"))
 import build  # noqa: E402  (it stands in another folder)
 
-PACE = 60
 STAND_IN = '''#!{python}
 import fcntl, os, pathlib, sys, time
 sys.path.insert(0, "{launch}")
@@ -50,7 +49,7 @@ else:
 '''
 
 
-def checkout(room, lanes):
+def checkout(room, lanes, pace):
     """Makes a checkout with the crates and launchers of this one, and returns it with the environment that has the stand-in."""
     top, tools, log = room / "checkout", room / "tools", room / "log"
     for name in ("bin", "launch", "crates"):
@@ -59,7 +58,7 @@ def checkout(room, lanes):
         shutil.copy2(ROOT / name, top / name)
     (top / ".git").mkdir()
     tools.mkdir()
-    stand_in = STAND_IN.format(python=sys.executable, launch=top / "launch", log=log, pace=PACE)
+    stand_in = STAND_IN.format(python=sys.executable, launch=top / "launch", log=log, pace=pace)
     (tools / "rt").write_text(stand_in)
     (tools / "rt").chmod(0o755)
     log.touch()
@@ -93,14 +92,15 @@ def seconds_of(top, name, env, limit=None):
 def main():
     name = sys.argv[1] if len(sys.argv) > 1 else "artiq_sim"
     lanes = int(sys.argv[2]) if len(sys.argv) > 2 else len(os.sched_getaffinity(0))
+    pace = int(sys.argv[3]) if len(sys.argv) > 3 else 10
     needs = build.crates_needed(name)
     seconds = build.seconds_known(needs)
-    longest, work = max(build.chains(needs, seconds).values()) / PACE, sum(seconds.values()) / PACE
+    longest, work = max(build.chains(needs, seconds).values()) / pace, sum(seconds.values()) / pace
     print(f"{name}: {len(needs)} crates, {lanes} side by side; longest chain {longest:.1f} s, work shared out {work / lanes:.1f} s")
     least = max(longest, work / lanes)
     for limit in (None, least / 2):
         with tempfile.TemporaryDirectory() as folder:
-            top, log, env = checkout(pathlib.Path(folder), lanes)
+            top, log, env = checkout(pathlib.Path(folder), lanes, pace)
             took = seconds_of(top, name, env, limit) + (seconds_of(top, name, env) if limit else 0)
             begun = [line.split() for line in log.read_text().splitlines()]
             twice = len(begun) - len({line[0] for line in begun})
