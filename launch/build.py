@@ -212,7 +212,8 @@ class Lane:
         """Puts what was built into the checkout, with the time at which all began; raises Failed where it wasn't built."""
         if status != 0:
             lines = self.log.read_text(errors="replace").splitlines()
-            raise Failed("\n".join([*lines[-40:], f"{crate} isn't proved: rt ended with status {status}"]))
+            print(*lines[-40:], sep="\n", file=sys.stderr)
+            raise Failed(f"{crate} isn't proved: the last lines of what rt said stand above")
         out, to = self.out(crate), ROOT / "crates" / crate / "out"
         to.mkdir(exist_ok=True)
         if is_program(crate):
@@ -344,11 +345,11 @@ def ensure(name):
     """Builds a program of crates/ unless it is there and its code isn't newer, and writes where its code lies beside it."""
     needs = crates_needed(name)
     if name not in needs or not is_program(name):
-        raise Failed("there is no such program in crates.txt")
+        raise Failed("crates.txt has no such program")
     with locked(ROOT / "launch", lambda: say(name, "waits for another build in this checkout")):
         if not is_current(name, needs):
             if shutil.which("rt") is None:
-                raise Failed("is built by the command rt of the Rattle kit, which isn't there")
+                raise Failed("the command rt of the Rattle kit isn't there")
             with room_for_lanes() as room:
                 Build(name, room, needs).run()
             if not is_current(name, needs):
@@ -367,7 +368,7 @@ def main():
     try:
         ensure(name)
     except Failed as why:
-        say(name, why)
+        say(name, f"could not be built: {why}")
         return 1
     except KeyboardInterrupt:
         say(name, "interrupted: what is proved stays, and the next start goes on from there")

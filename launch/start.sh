@@ -1,3 +1,4 @@
+# shellcheck shell=dash disable=SC1090,SC2086,SC2154
 # Starts a program of crates/. Each launcher in bin/ reads this, with its own path, followed through links, in $launcher.
 #
 # A built program starts at once where no file of its code is newer. Its time is that at which its build began, so that an
