@@ -32,7 +32,7 @@ ROOT = pathlib.Path(__file__).resolve().parent.parent
 # What a check reads of a crate.
 PARTS = ("src", "specs", "proofs")
 # The memory that a lane is reckoned to take, and the seconds of a crate that times.txt doesn't name.
-LANE_BYTES, USUAL_SECONDS = 2 << 30, 60.0
+LANE_BYTES, USUAL_SECONDS = 2 << 30, 30.0
 # The most processes that share the searches of one crate, where there are processors that no other crate wants.
 MOST_JOBS = 4
 # How rt ends where its check was killed.
