@@ -1,5 +1,5 @@
 -- When a request of an open session is answered, by the limit before it.
-use Rattle.std.proofs.Common.{◌≡◌, ◌≢◌, ◌+◌, ◌-◌, ◌*◌, ◌/◌, ◌<◌, ◌≤◌, ◌⊎◌, inl, inr, ℕ, true, false, List, [], ◌∷◌, ◌++◌, refl, sym, subst, ◌∙◌, arith, append_assoc, append-nil}
+use Rattle.std.proofs.Common.{◌≡◌, ◌≢◌, ◌+◌, ◌-◌, ◌*◌, ◌/◌, ◌<◌, ◌≤◌, ◌⊎◌, inl, inr, ℕ, true, false, List, [], ◌∷◌, ◌++◌, refl, sym, ◌∙◌, arith}
 use Rattle.std.specs.Prelude.{ℤ, pos, negsuc, int_le, if◌then◌else◌, Some, None, is_some, max, min}
 use Rattle.std.proofs.lemmas.Bool.{cases_lt}
 use Rattle.std.proofs.lemmas.Bool.Decides.{nat_tests}
@@ -13,8 +13,7 @@ use Rattle.rtio_types.specs.Time.{reading, cycle_of, whole_cycles, counter_reach
 use Rattle.sed_lanes.specs.Judged.{next_number}
 use Rattle.sed_lanes.specs.Verdict.{Verdict, Underflow, Lane, Sequence, Undecided}
 use Rattle.sed_lanes.proofs.Freeing.{undecided-before}
-use Rattle.rtio_core.specs.declared.data.Act.{Act}
-use Rattle.rtio_core.specs.declared.data.Act.TheVariants.{Start, Asked, End}
+use Rattle.rtio_core.specs.declared.data.Act.TheVariants.{Asked}
 use Rattle.rtio_core.specs.declared.data.Config.{Config}
 use Rattle.rtio_core.specs.declared.data.Entry.{Entry}
 use Rattle.rtio_core.specs.Entries.{judged_history, lane_steps, last_at, limit, open_session}

@@ -9,7 +9,7 @@ use Rattle.rtio_core.specs.declared.data.Act.TheVariants.{Asked}
 use Rattle.rtio_core.specs.declared.data.Config.{Config}
 use Rattle.rtio_core.specs.declared.data.Entry.{Entry}
 use Rattle.rtio_core.specs.Lawful.{IsLawfulAfter, MayFollow}
-use Rattle.timeline_sem.specs.Actions.{State, unanswered, Completion, go_on, next_reply_of, raise_if, ask}
+use Rattle.timeline_sem.specs.Actions.{State, Completion, go_on, next_reply_of, raise_if, ask}
 use Rattle.timeline_sem.specs.Laws.{final}
 use Rattle.timeline_sem.proofs.Keeps.{keeps_ask}
 use Rattle.timeline_sem.proofs.KeepsWhole.{AskedGrow, asked_grow, asked_grow_by_asking}

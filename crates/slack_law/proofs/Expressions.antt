@@ -1,6 +1,6 @@
 -- Expressions follow those of the run without a core.
-use Rattle.std.proofs.Common.{◌≡◌, ℕ, suc, Bool, true, false, not, List, [], ◌∷◌, length, Option, Some, None, refl, ap, subst}
-use Rattle.std.specs.Prelude.{ℤ, pos, ⊤}
+use Rattle.std.proofs.Common.{◌≡◌, suc, Bool, true, false, not, List, [], ◌∷◌, length, Option, Some, None, refl, ap, subst}
+use Rattle.std.specs.Prelude.{ℤ, pos}
 use Rattle.std.specs.Int.{w32, int_wrap}
 use Rattle.rtio_types.specs.declared.request.Request.TheVariants as Q
 use Rattle.rtio_types.specs.declared.request.Value.{Value}
@@ -21,10 +21,9 @@ use Rattle.slack_meaning.specs.declared.verdict.OpenKind.TheVariants as K
 use Rattle.slack_meaning.specs.declared.span.Span.{Span}
 use Rattle.slack_meaning.specs.Spans.{exactly}
 use Rattle.slack_meaning.specs.Actions as S
-use Rattle.slack_meaning.specs.Timeline as L
 use Rattle.slack_meaning.specs.Expressions as E
 use Rattle.slack_law.proofs.Standing.{IsWithin, AreWithin, IsValueWithin, Session}
-use Rattle.slack_law.proofs.Following.{Follows, FollowsPart, after}
+use Rattle.slack_law.proofs.Following.{Follows, FollowsPart}
 use Rattle.slack_law.proofs.Answering.{answers-data}
 use Rattle.slack_law.proofs.Within.{within-exactly}
 use Rattle.slack_law.proofs.Steps.{with_number, follows_give, follows_open, follows_cursor, follows_set, follows_number}

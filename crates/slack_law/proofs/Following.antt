@@ -1,10 +1,8 @@
 -- A part of a kernel on a core follows the same part in the run without a core: the calculus.
-use Rattle.std.proofs.Common.{◌≡◌, ℕ, List, [], ◌∷◌, ◌++◌, sym, subst}
+use Rattle.std.proofs.Common.{◌≡◌, List, [], ◌∷◌, ◌++◌, sym, subst}
 use Rattle.std.specs.Prelude.{⊤}
 use Rattle.rtio_types.specs.declared.request.Request.{Request}
-use Rattle.rtio_core.specs.declared.data.Config.{Config}
-use Rattle.rtio_core.specs.declared.data.Entry.{Entry}
-use Rattle.timeline_sem.specs.Actions.{State, Reason, break, continue, return, raised, budget, unanswered, Completion, normal, early, Action, go_on, ◌>>=◌, ◌>>◌}
+use Rattle.timeline_sem.specs.Actions.{State, Completion, normal, early, Action, go_on, ◌>>=◌, ◌>>◌}
 use Rattle.timeline_sem.specs.Laws.{final}
 use Rattle.timeline_sem.proofs.Keeps.{Keeps, keeps_bind, keeps_then}
 use Rattle.timeline_sem.proofs.KeepsWhole.{AskedGrow, asked_grow, kept_final}

@@ -9,14 +9,14 @@ use Rattle.rtio_types.specs.Replies.{number_in}
 use Rattle.kern_syntax.specs.Tree.{Bytes}
 use Rattle.kern_calls.specs.declared.calls.Operation.{Operation}
 use Rattle.kern_calls.specs.declared.calls.Operation.TheVariants as P
-use Rattle.timeline_sem.specs.Actions.{State, budget, Completion, normal, early, Action, go_on, give, take_unit_of, take_unit, ask, cursor_now, set_cursor, ◌>>=◌}
+use Rattle.timeline_sem.specs.Actions.{Completion, normal, early, Action, go_on, give, take_unit_of, take_unit, ask, ◌>>=◌}
 use Rattle.timeline_sem.specs.Timeline.{tell, inquire, output, count_edges, count_all_edges, play_reply, play, with_lead, first_of_list, second_of_list, move_to_real_time, reset_core, no_value, perform}
 use Rattle.timeline_sem.proofs.Keeps.{keeps_bind, keeps_cursor_now, keeps_set_cursor, keeps_inquire, keeps_play, keeps_count}
 use Rattle.timeline_sem.proofs.KeepsWhole.{AskedGrow, asked_grow}
 use Rattle.slack_meaning.specs.declared.verdict.OpenKind.{OpenKind}
 use Rattle.slack_meaning.specs.declared.verdict.OpenKind.TheVariants as K
 use Rattle.slack_meaning.specs.declared.span.Span.{Span}
-use Rattle.slack_meaning.specs.Spans.{exactly, span_max}
+use Rattle.slack_meaning.specs.Spans.{span_max}
 use Rattle.slack_meaning.specs.Actions as S
 use Rattle.slack_meaning.specs.Answers.{read_lead}
 use Rattle.slack_meaning.specs.Timeline as L

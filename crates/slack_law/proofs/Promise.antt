@@ -17,7 +17,7 @@ use Rattle.rtio_core.specs.declared.named.Named.{Named}
 use Rattle.rtio_core.specs.Entries.{open_session}
 use Rattle.rtio_core.specs.Lawful.{IsLawfulAfter, MayFollow}
 use Rattle.rtio_core.proofs.Settings.{AreInRange, ranges-of, both}
-use Rattle.timeline_sem.specs.Actions.{State, Reason, break, continue, return, raised, budget, unanswered, Completion, normal, early}
+use Rattle.timeline_sem.specs.Actions.{State, Completion, normal, early}
 use Rattle.timeline_sem.specs.Laws.{final}
 use Rattle.timeline_sem.specs.Programs.{meaning_of, opening, call_room, optional_body, function_call}
 use Rattle.slack_meaning.specs.declared.verdict.Verdict.TheVariants.{Yes}

@@ -1,5 +1,5 @@
 -- Statements and blocks follow those of the run without a core.
-use Rattle.std.proofs.Common.{◌≡◌, ℕ, zero, suc, Bool, true, false, List, [], ◌∷◌, Option, Some, None}
+use Rattle.std.proofs.Common.{ℕ, zero, suc, Bool, true, false, List, [], ◌∷◌, Option, Some, None}
 use Rattle.std.specs.Prelude.{ℤ, pos, ⊤, replicate, bytes_eq, if◌then◌else◌}
 use Rattle.std.specs.Int.{int_gap}
 use Rattle.rtio_types.specs.declared.outcome.Exc.{Exc}
@@ -10,7 +10,7 @@ use Rattle.kern_syntax.specs.Tree as R
 use Rattle.kern_calls.specs.declared.types.ValueType.TheVariants.{Int64}
 use Rattle.kern_calls.specs.Types.{Scope, type_of}
 use Rattle.timeline_sem.specs.Actions.{Action, ◌>>=◌}
-use Rattle.timeline_sem.specs.Expressions.{Callee, number_in_value, expression}
+use Rattle.timeline_sem.specs.Expressions.{Callee, expression}
 use Rattle.timeline_sem.specs.Statements.{either, name_of_exception, operator_of, values, optional_value, statement, block, parallel_block, otherwise, handler}
 use Rattle.slack_meaning.specs.declared.span.Span.{Span}
 use Rattle.slack_meaning.specs.Spans.{span_max}

@@ -7,7 +7,7 @@ use Rattle.rtio_types.specs.declared.request.Request.TheVariants as Q
 use Rattle.rtio_types.specs.declared.request.Reply.{Reply}
 use Rattle.rtio_types.specs.declared.request.Reply.TheVariants as R
 use Rattle.rtio_types.specs.Recordings.{Recorded}
-use Rattle.rtio_types.specs.Time.{later, shifted}
+use Rattle.rtio_types.specs.Time.{shifted}
 use Rattle.kern_syntax.specs.Tree.{Bytes}
 use Rattle.timeline_sem.specs.Actions.{State, budget, Completion, normal, early, Action, go_on, give, take_unit, ask, ◌>>=◌}
 use Rattle.timeline_sem.specs.Laws.{final}
@@ -20,7 +20,6 @@ use Rattle.slack_meaning.specs.declared.span.Span.{Span}
 use Rattle.slack_meaning.specs.declared.span.SpanEvent.{SpanEvent}
 use Rattle.slack_meaning.specs.Actions.{SpanRecording}
 use Rattle.slack_meaning.specs.Actions as S
-use Rattle.slack_meaning.specs.Answers.{submit, fetch}
 use Rattle.slack_meaning.specs.Timeline as L
 use Rattle.slack_law.proofs.Standing.{Any, IsWithin, IsEventWithin, AreEventsWithin, IsRecordingWithin, IsCollectedWithin, Agree, Session, Stands, by_budget, Meets, stopped, normally, alike, only}
 use Rattle.slack_law.proofs.Following.{Grows, Follows, FollowsPart, after, safe, follows_after, follows_then}

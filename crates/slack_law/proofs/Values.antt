@@ -1,7 +1,7 @@
 -- Names, elements and operators follow those of the run without a core.
 use Rattle.std.proofs.Common.{◌≡◌, ℕ, zero, suc, Bool, true, false, List, [], ◌∷◌, map, Option, Some, None, refl, sym, ap, subst}
-use Rattle.std.specs.Prelude.{ℤ, pos, negsuc, ◌+ℤ◌, ◌-ℤ◌, ⊤, ◌&&◌, bytes_eq, slice_get, slice_set, unsigned_abs, option_map, if◌then◌else◌}
-use Rattle.std.specs.Int.{w64, int_wrap}
+use Rattle.std.specs.Prelude.{ℤ, pos, negsuc, ◌+ℤ◌, ◌-ℤ◌, ◌&&◌, bytes_eq, slice_get, slice_set, unsigned_abs, option_map, if◌then◌else◌}
+use Rattle.std.specs.Int.{int_wrap}
 use Rattle.rtio_types.specs.declared.outcome.Exc.{Exc}
 use Rattle.rtio_types.specs.declared.outcome.Exc.TheVariants.{IndexError, ZeroDivisionError}
 use Rattle.rtio_types.specs.declared.request.Value.{Value}

@@ -1,12 +1,12 @@
 -- Numbers within spans.
-use Rattle.std.proofs.Common.{◌≡◌, ◌^◌, Bool, true, false, List, [], ◌∷◌, ◌++◌, refl, arith}
-use Rattle.std.specs.Prelude.{ℤ, pos, negsuc, neg_ℤ, ◌+ℤ◌, ◌-ℤ◌, ◌≤ℤ◌, ◌&&◌, int_le, FitsSigned}
+use Rattle.std.proofs.Common.{◌≡◌, true, List, [], ◌∷◌, ◌++◌, arith}
+use Rattle.std.specs.Prelude.{ℤ, ◌+ℤ◌, ◌-ℤ◌}
 use Rattle.std.specs.Int.{w64, int_wrap, int_max}
 use Rattle.std.specs.List.{AllZip}
 use Rattle.std.proofs.lemmas.Int.{int_wrap_fits, ints, clamps}
 use Rattle.std.proofs.lemmas.Bool.Decides.{Decides-int_eq}
 use Rattle.slack_meaning.specs.declared.span.Span.{Span}
-use Rattle.slack_meaning.specs.Spans.{exactly, is_number, is_near, lies_near, span_sum, span_less, span_max}
+use Rattle.slack_meaning.specs.Spans.{exactly, is_number, is_near, span_sum, span_less, span_max}
 use Rattle.slack_meaning.proofs.Spans.{near-ends, fits-near}
 use Rattle.slack_law.proofs.Standing.{IsWithin}
 
