@@ -1,7 +1,6 @@
 -- The methods of the language follow those of the run without a core.
 use Rattle.std.proofs.Common.{◌≡◌, ℕ, List, [], ◌∷◌, refl, ap}
 use Rattle.std.specs.Prelude.{ℤ, pos, ⊤}
-use Rattle.std.specs.Int.{int_max}
 use Rattle.rtio_types.specs.declared.request.Request.{Request}
 use Rattle.rtio_types.specs.declared.request.Request.TheVariants as Q
 use Rattle.rtio_types.specs.Integers.{low_bits}
@@ -11,17 +10,17 @@ use Rattle.kern_calls.specs.declared.calls.Operation.{Operation}
 use Rattle.kern_calls.specs.declared.calls.Operation.TheVariants as P
 use Rattle.timeline_sem.specs.Actions.{Completion, normal, early, Action, go_on, give, take_unit_of, take_unit, ask, ◌>>=◌}
 use Rattle.timeline_sem.specs.Timeline.{tell, inquire, output, count_edges, count_all_edges, play_reply, play, with_lead, first_of_list, second_of_list, move_to_real_time, reset_core, no_value, perform}
-use Rattle.timeline_sem.proofs.Keeps.{keeps_bind, keeps_cursor_now, keeps_set_cursor, keeps_inquire, keeps_play, keeps_count}
+use Rattle.timeline_sem.proofs.Keeps.{keeps_inquire, keeps_play, keeps_count}
 use Rattle.timeline_sem.proofs.KeepsWhole.{AskedGrow, asked_grow}
 use Rattle.slack_meaning.specs.declared.verdict.OpenKind.{OpenKind}
 use Rattle.slack_meaning.specs.declared.verdict.OpenKind.TheVariants as K
 use Rattle.slack_meaning.specs.declared.span.Span.{Span}
-use Rattle.slack_meaning.specs.Spans.{span_max}
+use Rattle.slack_meaning.specs.Spans.{exactly, span_max}
 use Rattle.slack_meaning.specs.Actions as S
 use Rattle.slack_meaning.specs.Answers.{read_lead}
 use Rattle.slack_meaning.specs.Timeline as L
 use Rattle.slack_law.proofs.Standing.{IsWithin, AreWithin, Session}
-use Rattle.slack_law.proofs.Following.{Grows, Follows, FollowsPart, after, follows_after, follows_then}
+use Rattle.slack_law.proofs.Following.{Follows, FollowsPart, IsTotal, after, follows_bind, follows_then}
 use Rattle.slack_law.proofs.Asking.{Answers, follows_ask}
 use Rattle.slack_law.proofs.Answering.{answers-counter, answers-reset}
 use Rattle.slack_law.proofs.AnsweringMore.{answers-wait, answers-erase}
@@ -32,6 +31,9 @@ use Rattle.slack_law.proofs.TimedCalls.{follows_like, follows_map, follows_tell,
 -- the lead over a reading lies within a span
 abbrev IsLead : ℤ → Span → Type 0
 IsLead reading span = IsWithin (with_lead reading) span
+
+lead-total : IsTotal IsLead
+lead-total reading = (exactly (with_lead reading), within-exactly (with_lead reading))
 
 -- a reading, and what goes on from it
 reading-then : {C : Type 0} (q : Request) (f : ℤ → Action C) (c : Completion ⊤) → go_on c (λ x s. go_on (go_on (ask q s) (λ reply. give (number_in reply))) f) ≡ go_on (go_on (go_on c (λ x. ask q)) (λ reply. give (number_in reply))) f
@@ -57,24 +59,22 @@ module _ {session : Session} where
       follows_map {good = λ reply span. IsLead (number_in reply) span} number_in (λ x y h. h) (follows_ask q answers)
 
   follows_read : (q : Request) → Answers session.config session.chair q (λ reply span. IsLead (number_in reply) span) read_lead
-      → {f : ℤ → Action ⊤} {g : Span → S.Action ⊤} → ((reading : ℤ) → Grows (f reading))
+      → {f : ℤ → Action ⊤} {g : Span → S.Action ⊤}
       → ((reading : ℤ) (lead : Span) → IsLead reading lead → FollowsPart session (f reading) (g lead))
       → FollowsPart session (inquire q >>= f) (after S.take_unit (λ y. after read_lead g))
-  follows_read q answers {f} grows k =
+  follows_read q answers {f} k =
       follows_like (λ s. reading-then q f (take_unit s))
-      (follows_then follows_unit (follows_after (follows_lead q answers) grows k))
+      (follows_then follows_unit (follows_bind lead-total (follows_lead q answers) k))
 
   follows_move : FollowsPart session move_to_real_time L.move_to_real_time
   follows_move =
       follows_read Q.Counter (answers-counter session.config session.ranges session.chair)
-      (λ reading. keeps_bind AskedGrow AskedGrow asked_grow (keeps_cursor_now AskedGrow AskedGrow asked_grow) (λ t. keeps_set_cursor AskedGrow AskedGrow asked_grow (int_max t (with_lead reading))))
       (λ reading lead h. with_number {g = λ u. after (S.within_reach (span_max u lead)) S.set_cursor} follows_cursor
       (λ t u k. follows_reach S.set_cursor (follows_set (max-within t (with_lead reading) u lead k h))))
 
   follows_reset : FollowsPart session reset_core L.reset_core
   follows_reset =
       follows_read Q.Reset (answers-reset session.config session.ranges session.chair)
-      (λ reading. keeps_set_cursor AskedGrow AskedGrow asked_grow (with_lead reading))
       (λ reading lead h. follows_set h)
 
   -- a part without a value
