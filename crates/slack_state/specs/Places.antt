@@ -9,5 +9,5 @@ abbrev pub IsPlaceOf : Bytes → List (Bytes × Option SpanRecording) → Option
 IsPlaceOf name saved (Some place) =
     (place < length saved)
     × ((new : Option SpanRecording) (entry : Bytes × Option SpanRecording) → entry ≡ get_or saved place entry →
-        with_recording saved name new ≡ set saved place (entry.0, new))
+    with_recording saved name new ≡ set saved place (entry.0, new))
 IsPlaceOf name saved None = is_known saved name ≡ false
