@@ -1,7 +1,7 @@
-mod Arguments
-mod Entered
-mod Handled
-mod Items
+pub mod Arguments
+pub mod Entered
+pub mod Handled
+pub mod Items
 mod Operated
-mod Sizes
-mod Turning
+pub mod Sizes
+pub mod Turning

@@ -89,8 +89,8 @@ fn run_first(
 
 ghost use Rattle.std.specs.Prelude.{slice_get};
 
-// The function at a place of the text, from 0, if there is one.
-fn function_at(functions: &[Function], place: u32) -> Option<&Function>
+/// The function at a place of the text, from 0, if there is one.
+pub fn function_at(functions: &[Function], place: u32) -> Option<&Function>
     ensures { option_map (λ f. function_of f.now) result ≡ slice_get (tree_of functions.now) place }
 {
     functions.get(place as usize)
