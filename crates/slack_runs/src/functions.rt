@@ -35,7 +35,7 @@ pub fn perform_call(
     ensures { Does result state.new (perform_call (scope_in frame.now) (calls_in frame.now) name.now (builtin_named name.now) (arguments_of arguments.now) spans.now state.old) }
 {
     match builtin_named(name) {
-        Some(builtin) => perform_builtin(&frame.scope, state, builtin, arguments, spans),
+        Some(builtin) => { Ok(perform_builtin(&frame.scope, state, builtin, arguments, spans)?) }
         None => run_named(alloc, frame, state, name, spans),
     }
 }
