@@ -1,7 +1,5 @@
-pub mod Arguments
-pub mod Entered
-pub mod Handled
-pub mod Items
+mod Arguments
+mod Entered
+mod Handled
 mod Operated
-pub mod Sizes
-pub mod Turning
+mod Turning

@@ -9,12 +9,12 @@ ghost use Rattle.slack_state.specs.Does.{Does};
 use kern_names::{Functions, number_functions};
 use kern_syntax::Function;
 use kern_types::Checked;
+use meaning_frames::function_at;
 use slack_law::a_yes_means_no_underflow;
 use slack_meaning::{Span, Stopped, Verdict};
 use slack_runs::run_function;
 use slack_state::{Early, Reason, State, exactly};
 use std::alloc::{AllocError, Global};
-use timeline_meaning::function_at;
 
 // At most 64 functions are active, the first one being one of them.
 const CALL_ROOM: u32 = 63;

@@ -4,7 +4,7 @@ use Rattle.std.specs.Prelude.{ℤ, pos, ◌+ℤ◌, ◌<ℤ◌, ⊤}
 use Rattle.std.specs.Int.{int_gap}
 use Rattle.rtio_types.specs.Integers.{is_true}
 use Rattle.kern_syntax.specs.Tree.{Bytes}
-use Rattle.meaning_runs.proofs.Turning.{gap_step}
+use Rattle.meaning_frames.proofs.Turning.{gap_step}
 use Rattle.slack_meaning.specs.Spans.{Span}
 use Rattle.slack_meaning.specs.Actions.{State, Completion, Action, normal, go_on, as_number, ◌>>=◌}
 use Rattle.slack_meaning.specs.Statements.{for_turns, turn, when, while_turns}

@@ -1,6 +1,6 @@
 -- What a function that runs knows.
 use Rattle.kern_names.specs.ScopeOf.{program_of}
-use Rattle.meaning_runs.specs.declared.frame.Frame.{Frame}
+use Rattle.meaning_frames.specs.declared.frame.Frame.{Frame}
 use Rattle.slack_meaning.specs.Expressions.{Callee}
 use Rattle.slack_meaning.specs.Programs.{function_call}
 

@@ -3,7 +3,7 @@
 ghost use Rattle.std.specs.Prelude.{option_map};
 ghost use Rattle.kern_syntax.specs.Tree.{Otherwise, no_else};
 ghost use Rattle.kern_syntax.specs.TreeOf.{block_of, elif_of, else_of, statement_of};
-ghost use Rattle.meaning_runs.specs.Frames.{scope_in};
+ghost use Rattle.meaning_frames.specs.Frames.{scope_in};
 ghost use Rattle.slack_state.specs.Does.{Does};
 ghost use Rattle.meaning_steps.specs.RunnableStatements.{IsRunnableBlock, IsRunnableOtherwise, IsRunnableStatement};
 ghost use Rattle.slack_meaning.specs.Statements.{block, otherwise, statement};
@@ -15,7 +15,7 @@ use crate::loops::{run_for, run_while};
 use crate::simple::{assign, assign_list, assign_repeated, augment, give_back};
 use crate::timed::{handle, run_parallel, run_recorded};
 use kern_syntax::{Block, Elif, StmtKind};
-use meaning_runs::Frame;
+use meaning_frames::Frame;
 use meaning_steps::is_true;
 use slack_state::{Early, Reason, State, exactly};
 use std::alloc::Global;

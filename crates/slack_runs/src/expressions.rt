@@ -3,7 +3,7 @@
 ghost use Rattle.kern_syntax.specs.TreeOf.{arguments_of, argument_of, expression_of};
 ghost use Rattle.kern_syntax.specs.Tree.{no_more};
 ghost use Rattle.meaning_steps.specs.Runnable.{IsRunnable, AreRunnable};
-ghost use Rattle.meaning_runs.specs.Frames.{scope_in};
+ghost use Rattle.meaning_frames.specs.Frames.{scope_in};
 ghost use Rattle.slack_runs.specs.Frames.{calls_in};
 ghost use Rattle.slack_runs.specs.Values.{DoesItems, first_argument};
 ghost use Rattle.slack_state.specs.Does.{Does};
@@ -13,7 +13,7 @@ use crate::functions::perform_call;
 use kern_names::type_of;
 use kern_syntax::{Argument, Expr};
 use meaning_numbers::{changed, compared};
-use meaning_runs::Frame;
+use meaning_frames::Frame;
 use meaning_steps::{is_true, number_of};
 use slack_meaning::Span;
 use slack_state::{Early, State, exactly};

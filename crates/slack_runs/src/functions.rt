@@ -3,7 +3,7 @@
 ghost use Rattle.kern_calls.specs.Calls.{builtin_named};
 ghost use Rattle.kern_names.specs.ScopeOf.{program_of};
 ghost use Rattle.kern_syntax.specs.TreeOf.{arguments_of, block_of, function_of};
-ghost use Rattle.meaning_runs.specs.Frames.{scope_in};
+ghost use Rattle.meaning_frames.specs.Frames.{scope_in};
 ghost use Rattle.meaning_steps.specs.Runnable.{CallIsTold};
 ghost use Rattle.meaning_steps.specs.RunnableStatements.{AreRunnableFunctions, IsRunnableBlock};
 ghost use Rattle.slack_meaning.specs.Expressions.{perform_call};
@@ -15,7 +15,7 @@ use crate::blocks::run_block;
 use kern_calls::builtin_named;
 use kern_names::{Functions, Scope, names_of};
 use kern_syntax::{Argument, Function};
-use meaning_runs::Frame;
+use meaning_frames::Frame;
 use slack_meaning::Span;
 use slack_state::{Early, State, exactly};
 use slack_steps::{enter_call, finished, initial_values, perform_builtin};

@@ -3,7 +3,7 @@
 ghost use Rattle.std.specs.Prelude.{⊤};
 ghost use Rattle.std.specs.Int.{int_gap};
 ghost use Rattle.kern_syntax.specs.TreeOf.{block_of, expression_of};
-ghost use Rattle.meaning_runs.specs.Frames.{scope_in};
+ghost use Rattle.meaning_frames.specs.Frames.{scope_in};
 ghost use Rattle.slack_state.specs.Does.{Does};
 ghost use Rattle.meaning_steps.specs.Runnable.{IsRunnable};
 ghost use Rattle.meaning_steps.specs.RunnableStatements.{IsRunnableBlock};
@@ -16,7 +16,7 @@ ghost use Rattle.slack_steps.specs.Turns.{GoesOn, set_then};
 use crate::blocks::run_block;
 use crate::expressions::evaluate;
 use kern_syntax::{Block, Expr};
-use meaning_runs::Frame;
+use meaning_frames::Frame;
 use meaning_steps::is_true;
 use slack_meaning::Span;
 use slack_state::{Early, Held, Reason, State, exactly};

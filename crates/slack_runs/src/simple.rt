@@ -4,7 +4,7 @@ ghost use Rattle.std.specs.Prelude.{map, option_map};
 ghost use Rattle.kern_syntax.specs.TreeOf.{assign_to, augment_of, expression_of};
 ghost use Rattle.kern_syntax.specs.Tree.{assign_repeated, assign_list};
 ghost use Rattle.kern_syntax.specs.Tree as T;
-ghost use Rattle.meaning_runs.specs.Frames.{scope_in};
+ghost use Rattle.meaning_frames.specs.Frames.{scope_in};
 ghost use Rattle.meaning_steps.specs.Runnable.{IsRunnable};
 ghost use Rattle.meaning_steps.specs.RunnableStatements.{EachRunnable, IfThereRunnable, IsRunnableStatement};
 ghost use Rattle.slack_meaning.specs.Statements.{statement, values};
@@ -14,7 +14,7 @@ ghost use Rattle.slack_state.specs.Does.{Does};
 
 use crate::expressions::evaluate;
 use kern_syntax::{Augment, Expr, Target};
-use meaning_runs::Frame;
+use meaning_frames::Frame;
 use slack_meaning::Span;
 use slack_state::{Early, Held, Reason, State, exactly};
 use slack_steps::{hold_sum, set_sum};

@@ -1,7 +1,7 @@
 // Blocks on the timeline, and handlers.
 
 ghost use Rattle.kern_syntax.specs.TreeOf.{block_of, handlers_of};
-ghost use Rattle.meaning_runs.specs.Frames.{scope_in};
+ghost use Rattle.meaning_frames.specs.Frames.{scope_in};
 ghost use Rattle.slack_state.specs.Does.{Does};
 ghost use Rattle.meaning_steps.specs.RunnableStatements.{AreRunnableHandlers, IsRunnableBlock};
 ghost use Rattle.slack_meaning.specs.Statements.{block, handler, parallel_block, recorded};
@@ -9,7 +9,7 @@ ghost use Rattle.slack_runs.specs.Frames.{calls_in};
 
 use crate::blocks::{run_block, run_statement};
 use kern_syntax::{Block, Handler};
-use meaning_runs::Frame;
+use meaning_frames::Frame;
 use meaning_steps::handler_of;
 use rtio_types::{Exc, Name};
 use slack_state::{Early, Reason, State, greatest};

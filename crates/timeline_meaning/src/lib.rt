@@ -5,4 +5,4 @@
 mod whole;
 
 pub use timeline_sem::MeantOutcome;
-pub use whole::{Meant, function_at, meaning};
+pub use whole::{Meant, meaning};

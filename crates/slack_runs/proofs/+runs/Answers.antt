@@ -13,13 +13,13 @@ use Rattle.kern_names.specs.ScopeOf.{program_of}
 use Rattle.rtio_types.specs.Integers.{is_true}
 use Rattle.meaning_steps.specs.Handling.{handler_of}
 use Rattle.meaning_steps.specs.Runnable.{AreRunnable}
-use Rattle.meaning_runs.specs.Frames.{scope_in}
-use Rattle.meaning_runs.proofs.Arguments.{runnable_rest, smaller_rest}
-use Rattle.meaning_runs.proofs.Sizes.{arguments_size, block_size, handlers_size, program_size}
-use Rattle.meaning_runs.proofs.Entered.{found_runs, found_smaller, room_falls}
-use Rattle.meaning_runs.proofs.Handled.{handled_runs, handled_smaller}
-use Rattle.meaning_runs.proofs.Items.{drop_item}
-use Rattle.meaning_runs.proofs.Turning.{next_fits}
+use Rattle.meaning_frames.specs.Frames.{scope_in}
+use Rattle.meaning_frames.proofs.Arguments.{runnable_rest, smaller_rest}
+use Rattle.meaning_frames.proofs.Sizes.{arguments_size, block_size, handlers_size, program_size}
+use Rattle.meaning_frames.proofs.Found.{found_runs, found_smaller, room_falls}
+use Rattle.meaning_frames.proofs.Handled.{handled_runs, handled_smaller}
+use Rattle.meaning_frames.proofs.Items.{drop_item}
+use Rattle.meaning_frames.proofs.Turning.{next_fits}
 use Rattle.slack_meaning.specs.Actions.{normal, early, give, as_number, ◌>>=◌}
 use Rattle.slack_meaning.specs.Expressions.{arguments, expression}
 use Rattle.slack_meaning.specs.Statements.{block, for_turns, turn, while_loop, while_turns}

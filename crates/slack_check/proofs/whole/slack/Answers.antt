@@ -2,7 +2,7 @@ use Rattle.std.proofs.Common.{◌≡◌, ap, sym, subst, ◌∙◌}
 use Rattle.kern_syntax.specs.TreeOf.{tree_of}
 use Rattle.meaning_runnable.proofs.Functions.{typed_can_run}
 use Rattle.meaning_steps.specs.RunnableStatements.{AreRunnableFunctions}
-use Rattle.timeline_meaning.proofs.First.{first_runs}
+use Rattle.meaning_frames.proofs.First.{first_runs}
 use Rattle.slack_check.proofs.First.{gives_verdict}
 use Rattle.slack_check.proofs.whole.slack.Goals as goal
 
