@@ -21,19 +21,12 @@ use Rattle.rtio_core.specs.Entries.{judged_history, lane_steps, last_at, limit, 
 use Rattle.rtio_core.specs.Reply.{is_decided, reply_to_event, verdict_at}
 use Rattle.rtio_core.specs.Top.{first_decided, top}
 use Rattle.rtio_core.proofs.Laws.{least_from-before}
+use Rattle.rtio_core.proofs.Reasons.{limit-at-last}
 use Rattle.slack_law.proofs.FewOutputs.{few-decided}
 
 -- the history with one answered request more
 abbrev pub asked_then : List Entry → ℕ → Request → Reply → ℕ → List Entry
 asked_then before chair q r at = before ++ record { chair = chair; act = Asked q r at } ∷ []
-
-from-front : (P : List Entry → Type 0) → ((front : List Entry) (entry : Entry) → P (front ++ entry ∷ [])) → (front rest : List Entry) → P front → P (front ++ rest)
-from-front P last front [] h = subst P (sym (append-nil front)) h
-from-front P last front (entry ∷ rest) h = subst P (append_assoc front (entry ∷ []) rest) (from-front P last (front ++ entry ∷ []) rest (last front entry))
-
--- in an open session the limit reaches the last entry
-IsReached : ℕ → List Entry → Type 0
-IsReached cost history = (running : ℕ × ℕ) → open_session history ≡ Some running → 8 * last_at history ≤ limit cost history
 
 pub last-after : (before : List Entry) (chair : ℕ) (q : Request) (r : Reply) (at : ℕ) → last_at (asked_then before chair q r at) ≡ at
 last-after before chair q r at = fold-append _ _ before (record { chair = chair; act = Asked q r at } ∷ [])
@@ -43,25 +36,6 @@ limit-after cost before chair q r at = fold-append _ _ before (record { chair = 
 
 pub open-after : (before : List Entry) (chair : ℕ) (q : Request) (r : Reply) (at : ℕ) → open_session (asked_then before chair q r at) ≡ open_session before
 open-after before chair q r at = fold-append _ _ before (record { chair = chair; act = Asked q r at } ∷ [])
-
-reached-by : (cost chair : ℕ) (front : List Entry) (act : Act) → IsReached cost (front ++ record { chair = chair; act = act } ∷ [])
-unfolding IsReached
-reached-by cost chair front (Start of cursor at) running is =
-    let last : last_at (front ++ record { chair = chair; act = Start of cursor at } ∷ []) ≡ at = fold-append _ _ front (record { chair = chair; act = Start of cursor at } ∷ []) in
-    let far : limit cost (front ++ record { chair = chair; act = Start of cursor at } ∷ []) ≡ 8 * at = fold-append _ _ front (record { chair = chair; act = Start of cursor at } ∷ []) in
-    omega (arith, last, far)
-reached-by cost chair front (Asked request reply at) running is =
-    omega (arith, last-after front chair request reply at, limit-after cost front chair request reply at)
-reached-by cost chair front (End outcome cursor at) running is =
-    let closed : open_session (front ++ record { chair = chair; act = End outcome cursor at } ∷ []) ≡ None = fold-append _ _ front (record { chair = chair; act = End outcome cursor at } ∷ []) in
-    absurd (cc)
-
-pub limit-reaches : (cost : ℕ) (history : List Entry) (running : ℕ × ℕ) → open_session history ≡ Some running → 8 * last_at history ≤ limit cost history
-unfolding IsReached
-limit-reaches cost history = from-front (IsReached cost) (λ front entry. reached-by cost entry.chair front entry.act) [] history none
-  where
-    none : IsReached cost []
-    none running is = absurd (cc)
 
 -- a request is decided no later than at any counter, from the last entry's on, at which it is
 first-most : (config : Config) (history : List Entry) (q : Request) (counter : ℕ) → last_at history ≤ counter → is_decided config history q counter ≡ true → first_decided config history q ≤ counter
@@ -85,7 +59,7 @@ answered-by config history q at counter running is bounded last decided =
 pub answered-at-once : (config : Config) (history : List Entry) (q : Request) (at : ℕ) (running : ℕ × ℕ) → open_session history ≡ Some running → at ≤ top config history (Some q) → is_decided config history q (last_at history) ≡ true → 8 * at ≤ limit config.cost history
 answered-at-once config history q at running is bounded decided =
     let by = answered-by config history q at (last_at history) running is bounded (omega arith) decided in
-    let reached = limit-reaches config.cost history running is in
+    let reached = limit-at-last config.cost history running is in
     omega (arith, by, reached)
 
 decided-verdict : (v : Verdict) → v ≢ Undecided → is_some (reply_to_event v) ≡ true
@@ -103,7 +77,7 @@ few-at-once config history e at running some few is bounded =
 -- an output whose cycle the limit hasn't reached is answered before that cycle
 pub output-in-time : (config : Config) (history : List Entry) (e : Event) (at : ℕ) (running : ℕ × ℕ) → 1 ≤ config.lanes → 1 ≤ config.depth → open_session history ≡ Some running → at ≤ top config history (Some (ask.Out e)) → whole_cycles (limit config.cost history) < cycle_of e → at ≤ max (limit config.cost history / 8) (cycle_of e - 1)
 output-in-time config history e at running some deep is bounded later =
-    let reached = limit-reaches config.cost history running is in
+    let reached = limit-at-last config.cost history running is in
     answered-by config history (ask.Out e) at (cycle_of e - 1) running is bounded (omega (arith, reached, later))
     (decided-verdict (verdict_at config history e (cycle_of e - 1)) (λ undecided. let before = undecided-before config.lanes config.depth (lane_steps history) (cycle_of e - 1) e some deep undecided in omega (arith, before)))
 

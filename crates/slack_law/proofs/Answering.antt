@@ -25,7 +25,8 @@ use Rattle.rtio_core.specs.Lawful.{MayFollow}
 use Rattle.rtio_core.specs.Reply.{is_decided}
 use Rattle.rtio_core.proofs.Settings.{AreInRange}
 use Rattle.timeline_sem.specs.Timeline.{with_lead}
-use Rattle.slack_meaning.specs.Actions.{SpanEvent, SpanRecording}
+use Rattle.slack_meaning.specs.declared.span.SpanEvent.{SpanEvent}
+use Rattle.slack_meaning.specs.Actions.{SpanRecording}
 use Rattle.slack_meaning.specs.Actions as S
 use Rattle.slack_meaning.specs.Answers.{answered, counted, lead_if, read_lead}
 use Rattle.slack_law.proofs.AnswerTimes.{asked_then, last-after, limit-after, open-after, answered-at-once}

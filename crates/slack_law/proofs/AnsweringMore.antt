@@ -23,10 +23,13 @@ use Rattle.rtio_core.specs.Reply.{verdict_at}
 use Rattle.rtio_core.specs.Recordings.{trace_or}
 use Rattle.rtio_core.proofs.LastSaved.{has-last}
 use Rattle.rtio_core.proofs.Settings.{AreInRange}
-use Rattle.slack_meaning.specs.Actions.{SpanEvent, SpanRecording}
+use Rattle.slack_meaning.specs.declared.span.SpanEvent.{SpanEvent}
+use Rattle.slack_meaning.specs.Actions.{SpanRecording}
 use Rattle.slack_meaning.specs.Actions as S
 use Rattle.slack_meaning.specs.Answers.{counted, submit_if, submit, limit_at, await, is_known, at_hand, with_recording, remembering, save_if, save, erase_of, erase, fetch_of, fetch}
-use Rattle.slack_law.proofs.AnswerTimes.{asked_then, limit-reaches, answered-by, few-at-once, output-in-time, wait-reads, wait-decided}
+use Rattle.rtio_core.proofs.Reasons.{limit-at-last}
+use Rattle.slack_meaning.proofs.Spans.{cycle-rises}
+use Rattle.slack_law.proofs.AnswerTimes.{asked_then, answered-by, few-at-once, output-in-time, wait-reads, wait-decided}
 use Rattle.slack_law.proofs.Standing.{IsEventWithin, IsRecordingWithin, AreKept, Bounds, bounds_of, IsBounded, hands}
 use Rattle.slack_law.proofs.Asking.{IsAnswered, IsAnsweredBy, Answers}
 use Rattle.slack_law.proofs.Hands.{one, hand-with, hands-with, names-with, names-known, hand-known, found-kept, kept-saved, kept-resaved, kept-erased}
@@ -71,15 +74,9 @@ module _ (config : Config) (ranges : AreInRange config) (chair : ℕ) where
       most : 8 * at ≤ max a.limit (8 * counter_reaching until)
       most =
           let limited = h.limited in
-          let reached = limit-reaches config.cost history (chair, may.0.0) may.0.1 in
+          let reached = limit-at-last config.cost history (chair, may.0.0) may.0.1 in
           let by = answered-by config history (ask.Wait until) at (max (last_at history) (counter_reaching until)) (chair, may.0.0) may.0.1 may.3 (omega arith) (wait-decided until (max (last_at history) (counter_reaching until)) (omega arith)) in
           omega (arith, limited, reached, by)
-
-  -- cycles rise with stamps
-  cycle-rises : (x y : ℤ) → x ≤ℤ y → cycle_of_stamp x ≤ cycle_of_stamp y
-  cycle-rises (pos m) (pos n) h = let le : m ≤ n = omega (arith, ints, h) in omega (arith, le)
-  cycle-rises (negsuc m) y h = omega arith
-  cycle-rises (pos m) (negsuc n) h = absurd (omega (arith, ints, h))
 
   -- an output
   out-in-time : (e : Event) (history : List Entry) (r : Reply) (at limit : ℕ) (a : Bounds) → IsBounded config history a → MayFollow config history chair (Asked (ask.Out e) r at) → whole_cycles a.limit < cycle_of e → (r ≡ answer.Done) × (8 * at ≤ max a.limit (8 * (cycle_of e - 1)))

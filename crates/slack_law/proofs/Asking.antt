@@ -15,8 +15,8 @@ use Rattle.timeline_sem.proofs.Keeps.{keeps_ask}
 use Rattle.timeline_sem.proofs.KeepsWhole.{AskedGrow, asked_grow, asked_grow_by_asking}
 use Rattle.slack_meaning.specs.Actions as S
 use Rattle.slack_law.specs.Promise.{Answered, requests_of, replies_of}
-use Rattle.slack_law.proofs.Standing.{IsWithin, AreNamesWithin, IsCollectedWithin, IsInTime, AreAllInTime, AreInTimeFor, Agree, IsBounded, bounds_of, asked_entry, Stands, Meets}
-use Rattle.slack_law.proofs.Following.{Follows, agree-next, in-time-lacking, only-ends}
+use Rattle.slack_law.proofs.Standing.{IsWithin, AreNamesWithin, IsCollectedWithin, IsInTime, AreAllInTime, AreInTimeFor, Agree, IsBounded, bounds_of, asked_entry, Stands, by_silence, Meets, stopped, normally, only}
+use Rattle.slack_law.proofs.Following.{Follows, agree-next, in-time-lacking}
 
 -- the entry that comes next in a lawful history may follow
 lawful-next : (config : Config) (before front rest : List Entry) (entry : Entry) → IsLawfulAfter config before (front ++ entry ∷ rest) → MayFollow config (before ++ front) entry.chair entry.act
@@ -83,8 +83,8 @@ module _ (config : Config) (chair : ℕ) (start : Entry) (world : List Answered)
 
   by-end : {B : Type 0} (good : Reply → B → Type 0) (s : State) (a : S.State) (q : Request) (x : Answered) (left : List Answered) (st : Stands config chair start world s a) → world ≡ st.past ++ x ∷ left → q ≡ x.request → (d : S.Completion B) → IsAnsweredBy config chair (start ∷ map (asked_entry chair) st.past) good x a d → Meets config chair start world good (raise_if (raised_by x.reply) x.reply (asking q (replies_of left) s)) d
   by-end good s a q x left st whole same (S.normal y a') h =
-      subst (λ o. Meets config chair start world good (raise_if o x.reply (asking q (replies_of left) s)) (S.normal y a')) (sym h.1.quiet) (h.0, stands-after s a a' q x left st whole same h.1)
-  by-end good s a q x left st whole same (S.early (S.decided verdict) a') h = tt
+      subst (λ o. Meets config chair start world good (raise_if o x.reply (asking q (replies_of left) s)) (S.normal y a')) (sym h.1.quiet) (normally h.0 (stands-after s a a' q x left st whole same h.1))
+  by-end good s a q x left st whole same (S.early (S.decided verdict) a') h = stopped verdict a'
   by-end good s a q x left st whole same (S.early S.break a') h = absurd h
   by-end good s a q x left st whole same (S.early S.continue a') h = absurd h
   by-end good s a q x left st whole same (S.early (S.return v) a') h = absurd h
@@ -95,7 +95,7 @@ module _ (config : Config) (chair : ℕ) (start : Entry) (world : List Answered)
   by-left good q n answers s a st [] whole agree =
       let front : AreInTimeFor (requests_of st.past ++ q ∷ []) st.past = in-time-lacking st.past q st.in_time in
       let all : AreInTimeFor (s.asked ++ q ∷ []) st.past = subst (λ qs. AreInTimeFor (qs ++ q ∷ []) st.past) (sym st.asked) front in
-      only-ends config chair start world good unanswered (record s { asked = s.asked ++ q ∷ [] }) (n a)
+      only by_silence
       (subst (λ xs. AreInTimeFor (s.asked ++ q ∷ []) xs) (sym (whole ∙ append-nil st.past)) all)
   by-left good q n answers s a st (x ∷ left) whole agree =
       let told : Agree (s.asked ++ q ∷ []) world = subst (λ qs. Agree qs world) (asked-raised (raised_by x.reply) x.reply (asking q (replies_of left) s)) agree in

@@ -20,16 +20,18 @@ use Rattle.timeline_sem.specs.Statements.{when, either, after_turn, turn, while_
 use Rattle.timeline_sem.specs.Programs.{leave_function}
 use Rattle.timeline_sem.proofs.Keeps.{keeps_stop, keeps_skip}
 use Rattle.timeline_sem.proofs.KeepsWhole.{AskedGrow, asked_grow, kept_final, keeps_after_turn, keeps_turn, keeps_while_turns, keeps_while, keeps_end_recording, keeps_recorded, keeps_attempt}
-use Rattle.slack_meaning.specs.Spans.{Span, exactly}
-use Rattle.slack_meaning.specs.Actions.{SpanEvent, SpanRecording, Held}
+use Rattle.slack_meaning.specs.declared.span.Span.{Span}
+use Rattle.slack_meaning.specs.Spans.{exactly}
+use Rattle.slack_meaning.specs.declared.span.SpanEvent.{SpanEvent}
+use Rattle.slack_meaning.specs.Actions.{SpanRecording, Held}
 use Rattle.slack_meaning.specs.Actions as S
 use Rattle.slack_meaning.specs.Answers.{save}
 use Rattle.slack_meaning.specs.Expressions as E
 use Rattle.slack_meaning.specs.Statements as C
 use Rattle.slack_meaning.specs.Programs as G
 use Rattle.slack_law.specs.Promise.{Answered}
-use Rattle.slack_law.proofs.Standing.{IsWithin, AreEventsWithin, IsRecordingWithin, AreNamesWithin, IsCollectedWithin, AreInTimeFor, Agree, asked_entry, Stands, OnlyEnds, EndsAlike, EndsEarly, Meets}
-use Rattle.slack_law.proofs.Following.{Grows, grown, agree-grown, Follows, after, safe, not-normal, only-ends, follows_bind}
+use Rattle.slack_law.proofs.Standing.{IsWithin, AreEventsWithin, IsRecordingWithin, AreNamesWithin, IsCollectedWithin, AreInTimeFor, Agree, asked_entry, Stands, by_budget, by_silence, by_break, by_continue, by_return, by_raising, Meets, stopped, normally, alike, only}
+use Rattle.slack_law.proofs.Following.{Grows, grown, agree-grown, Follows, after, safe, follows_bind}
 use Rattle.slack_law.proofs.Asking.{follows_ask}
 use Rattle.slack_law.proofs.Answering.{Any}
 use Rattle.slack_law.proofs.AnsweringMore.{answers-save}
@@ -77,55 +79,20 @@ module _ (config : Config) (ranges : AreInRange config) (chair : ℕ) (start : E
   asked-turn (early budget s) again k = same-asked s
   asked-turn (early unanswered s) again k = same-asked s
 
-  meets-turn : (c : Completion ⊤) (d : S.Completion ⊤) (again : Action ⊤) (more : S.Action ⊤) → Met c d → Done again more → Agree (final (after_turn c again)).asked world → Met (after_turn c again) (C.after_turn d more)
-  meets-turn (normal x s) (S.normal y a) again more h f agree = f.from s a h.1 agree
-  meets-turn (early budget s) (S.normal y a) again more h f agree = only-ends config chair start world {A = ⊤} {B = ⊤} Any budget s (more a) h
-  meets-turn (early unanswered s) (S.normal y a) again more h f agree = only-ends config chair start world {A = ⊤} {B = ⊤} Any unanswered s (more a) h
-  meets-turn (early break s) (S.normal y a) again more h f agree = absurd h
-  meets-turn (early continue s) (S.normal y a) again more h f agree = absurd h
-  meets-turn (early (return v) s) (S.normal y a) again more h f agree = absurd h
-  meets-turn (early (raised x) s) (S.normal y a) again more h f agree = absurd h
-  meets-turn c (S.early (S.decided verdict) a) again more h f agree = tt
-  meets-turn (normal x s) (S.early S.continue a) again more h f agree = absurd h
-  meets-turn (early continue s) (S.early S.continue a) again more h f agree = f.from s a h agree
-  meets-turn (early budget s) (S.early S.continue a) again more h f agree = only-ends config chair start world {A = ⊤} {B = ⊤} Any budget s (more a) h
-  meets-turn (early unanswered s) (S.early S.continue a) again more h f agree = only-ends config chair start world {A = ⊤} {B = ⊤} Any unanswered s (more a) h
-  meets-turn (early break s) (S.early S.continue a) again more h f agree = absurd h
-  meets-turn (early (return v) s) (S.early S.continue a) again more h f agree = absurd h
-  meets-turn (early (raised x) s) (S.early S.continue a) again more h f agree = absurd h
-  meets-turn (normal x s) (S.early S.break a) again more h f agree = absurd h
-  meets-turn (early break s) (S.early S.break a) again more h f agree = (tt, h)
-  meets-turn (early budget s) (S.early S.break a) again more h f agree = h
-  meets-turn (early unanswered s) (S.early S.break a) again more h f agree = h
-  meets-turn (early continue s) (S.early S.break a) again more h f agree = absurd h
-  meets-turn (early (return v) s) (S.early S.break a) again more h f agree = absurd h
-  meets-turn (early (raised x) s) (S.early S.break a) again more h f agree = absurd h
-  meets-turn (normal x s) (S.early (S.return w) a) again more h f agree = absurd h
-  meets-turn (early break s) (S.early (S.return w) a) again more h f agree = absurd h
-  meets-turn (early continue s) (S.early (S.return w) a) again more h f agree = absurd h
-  meets-turn (early (return v) s) (S.early (S.return w) a) again more h f agree = h
-  meets-turn (early (raised x) s) (S.early (S.return w) a) again more h f agree = absurd h
-  meets-turn (early budget s) (S.early (S.return w) a) again more h f agree = h
-  meets-turn (early unanswered s) (S.early (S.return w) a) again more h f agree = h
-  meets-turn (normal x s) (S.early (S.raised y) a) again more h f agree = absurd h
-  meets-turn (early break s) (S.early (S.raised y) a) again more h f agree = absurd h
-  meets-turn (early continue s) (S.early (S.raised y) a) again more h f agree = absurd h
-  meets-turn (early (return v) s) (S.early (S.raised y) a) again more h f agree = absurd h
-  meets-turn (early (raised x) s) (S.early (S.raised y) a) again more h f agree = h
-  meets-turn (early budget s) (S.early (S.raised y) a) again more h f agree = h
-  meets-turn (early unanswered s) (S.early (S.raised y) a) again more h f agree = h
-  meets-turn (normal x s) (S.early S.budget a) again more h f agree = absurd h
-  meets-turn (early break s) (S.early S.budget a) again more h f agree = absurd h
-  meets-turn (early continue s) (S.early S.budget a) again more h f agree = absurd h
-  meets-turn (early (return v) s) (S.early S.budget a) again more h f agree = absurd h
-  meets-turn (early (raised x) s) (S.early S.budget a) again more h f agree = absurd h
-  meets-turn (early budget s) (S.early S.budget a) again more h f agree = h
-  meets-turn (early unanswered s) (S.early S.budget a) again more h f agree = h
+  meets-turn : {c : Completion ⊤} {d : S.Completion ⊤} {again : Action ⊤} {more : S.Action ⊤} → Met c d → Done again more → Agree (final (after_turn c again)).asked world → Met (after_turn c again) (C.after_turn d more)
+  meets-turn (stopped verdict a) f agree = stopped verdict a
+  meets-turn (normally h st) f agree = f.from _ _ st agree
+  meets-turn (alike by_continue st) f agree = f.from _ _ st agree
+  meets-turn (alike by_break st) f agree = normally tt st
+  meets-turn (alike (by_return h) st) f agree = alike (by_return h) st
+  meets-turn (alike (by_raising x) st) f agree = alike (by_raising x) st
+  meets-turn (only by_budget safe) f agree = only by_budget safe
+  meets-turn (only by_silence safe) f agree = only by_silence safe
 
   follows_after_turn : (body again : Action ⊤) (bodies more : S.Action ⊤) → Done body bodies → Done again more → Done (λ s. after_turn (body s) again) (λ a. C.after_turn (bodies a) more)
   follows_after_turn body again bodies more f g = record {
     grows = record { from = λ s. keeps_after_turn AskedGrow AskedGrow asked_grow s (body s) again (f.grows.from s) g.grows };
-    from = λ s a st agree. meets-turn (body s) (bodies a) again more (f.from s a st (agree-grown (final (body s)) (final (after_turn (body s) again)) world (asked-turn (body s) again g.grows) agree)) g agree;
+    from = λ s a st agree. meets-turn (f.from s a st (agree-grown (final (body s)) (final (after_turn (body s) again)) world (asked-turn (body s) again g.grows) agree)) g agree;
   }
 
   pub follows_turn : (body again : Action ⊤) (bodies more : S.Action ⊤) → Done body bodies → Done again more → Done (turn body again) (C.turn bodies more)
@@ -164,56 +131,6 @@ module _ (config : Config) (ranges : AreInRange config) (chair : ℕ) (start : E
       (T.follows_then config chair start world (follows_write config chair start world x (W.Int from) (S.number (exactly from)) (within-exactly from)) f)
       (follows_for_turns n x (from +ℤ pos 1) body bodies f)
 
-  -- both ends with their states changed
-  ends-moved : (reason : S.Reason) (a a' : S.State) (r : Reason) (s s' : State) → s'.asked ≡ s.asked → (Stands config chair start world s a → Stands config chair start world s' a') → EndsAlike config chair start world reason a r s → EndsAlike config chair start world reason a' r s'
-  ends-moved (S.decided verdict) a a' r s s' same f h = tt
-  ends-moved S.break a a' break s s' same f h = f h
-  ends-moved S.break a a' budget s s' same f h = subst (λ qs. AreInTimeFor qs world) (sym same) h
-  ends-moved S.break a a' unanswered s s' same f h = subst (λ qs. AreInTimeFor qs world) (sym same) h
-  ends-moved S.break a a' continue s s' same f h = absurd h
-  ends-moved S.break a a' (return n) s s' same f h = absurd h
-  ends-moved S.break a a' (raised x) s s' same f h = absurd h
-  ends-moved S.continue a a' continue s s' same f h = f h
-  ends-moved S.continue a a' budget s s' same f h = subst (λ qs. AreInTimeFor qs world) (sym same) h
-  ends-moved S.continue a a' unanswered s s' same f h = subst (λ qs. AreInTimeFor qs world) (sym same) h
-  ends-moved S.continue a a' break s s' same f h = absurd h
-  ends-moved S.continue a a' (return n) s s' same f h = absurd h
-  ends-moved S.continue a a' (raised x) s s' same f h = absurd h
-  ends-moved (S.return w) a a' (return n) s s' same f h = (h.0, f h.1)
-  ends-moved (S.return w) a a' budget s s' same f h = subst (λ qs. AreInTimeFor qs world) (sym same) h
-  ends-moved (S.return w) a a' unanswered s s' same f h = subst (λ qs. AreInTimeFor qs world) (sym same) h
-  ends-moved (S.return w) a a' break s s' same f h = absurd h
-  ends-moved (S.return w) a a' continue s s' same f h = absurd h
-  ends-moved (S.return w) a a' (raised x) s s' same f h = absurd h
-  ends-moved (S.raised y) a a' (raised x) s s' same f h = (h.0, f h.1)
-  ends-moved (S.raised y) a a' budget s s' same f h = subst (λ qs. AreInTimeFor qs world) (sym same) h
-  ends-moved (S.raised y) a a' unanswered s s' same f h = subst (λ qs. AreInTimeFor qs world) (sym same) h
-  ends-moved (S.raised y) a a' break s s' same f h = absurd h
-  ends-moved (S.raised y) a a' continue s s' same f h = absurd h
-  ends-moved (S.raised y) a a' (return n) s s' same f h = absurd h
-  ends-moved S.budget a a' budget s s' same f h = subst (λ qs. AreInTimeFor qs world) (sym same) h
-  ends-moved S.budget a a' unanswered s s' same f h = subst (λ qs. AreInTimeFor qs world) (sym same) h
-  ends-moved S.budget a a' break s s' same f h = absurd h
-  ends-moved S.budget a a' continue s s' same f h = absurd h
-  ends-moved S.budget a a' (return n) s s' same f h = absurd h
-  ends-moved S.budget a a' (raised x) s s' same f h = absurd h
-
-  only-moved : (r : Reason) (s s' : State) → s'.asked ≡ s.asked → OnlyEnds config chair start world r s → OnlyEnds config chair start world r s'
-  only-moved budget s s' same h = subst (λ qs. AreInTimeFor qs world) (sym same) h
-  only-moved unanswered s s' same h = subst (λ qs. AreInTimeFor qs world) (sym same) h
-  only-moved break s s' same h = absurd h
-  only-moved continue s s' same h = absurd h
-  only-moved (return n) s s' same h = absurd h
-  only-moved (raised x) s s' same h = absurd h
-
-  early-moved : (A B : Type 0) (reason : S.Reason) (a a' : S.State) (r : Reason) (s s' : State) → s'.asked ≡ s.asked → (Stands config chair start world s a → Stands config chair start world s' a') → EndsEarly config chair start world {A = A} (early r s) reason a → EndsEarly config chair start world {A = B} (early r s') reason a'
-  early-moved A B (S.decided verdict) a a' r s s' same f h = tt
-  early-moved A B S.break a a' r s s' same f h = ends-moved S.break a a' r s s' same f h
-  early-moved A B S.continue a a' r s s' same f h = ends-moved S.continue a a' r s s' same f h
-  early-moved A B (S.return w) a a' r s s' same f h = ends-moved (S.return w) a a' r s s' same f h
-  early-moved A B (S.raised y) a a' r s s' same f h = ends-moved (S.raised y) a a' r s s' same f h
-  early-moved A B S.budget a a' r s s' same f h = ends-moved S.budget a a' r s s' same f h
-
   -- a record block
   left-stands : (s s' : State) (a a' : S.State) → Stands config chair start world s a → Stands config chair start world s' a' → Stands config chair start world (leave_recording s s') (C.leave_recording a a')
   left-stands s s' a a' st st' =
@@ -228,7 +145,7 @@ module _ (config : Config) (ranges : AreInRange config) (chair : ℕ) (start : E
 
   meets-save : (name : Bytes) (t : Recorded) (f : SpanRecording) (s s' : State) (a a' : S.State) → IsRecordingWithin t f → Stands config chair start world s a → Stands config chair start world s' a' → (m n : ℕ) → m ≤ n → Agree (final (save_after (Q.Save name t) s (take_unit_of m s'))).asked world → Met (save_after (Q.Save name t) s (take_unit_of m s')) (C.save_after name f a (S.take_unit_of n a'))
   meets-save name t f s s' a a' within st st' zero n le agree =
-      only-ends config chair start world {A = ⊤} {B = ⊤} Any budget (leave_recording s s') (C.save_after name f a (S.take_unit_of n a')) (safe config chair start world s' a' st')
+      only by_budget (safe config chair start world s' a' st')
   meets-save name t f s s' a a' within st st' (suc m) zero le agree = absurd (omega (arith, le))
   meets-save name t f s s' a a' within st st' (suc m) (suc n) le agree =
       (follows_map config ranges chair start world lawful Any Any (λ r. tt) (ask (Q.Save name t)) (save name f) (λ x y h. tt) (follows_ask config chair start world lawful Any (Q.Save name t) (save name f) (answers-save config ranges chair name t f within))).from
@@ -237,23 +154,12 @@ module _ (config : Config) (ranges : AreInRange config) (chair : ℕ) (start : E
       (left-stands s (record s' { units = m }) a (record a' { units = n }) st (T.stands-units config chair start world s' a' m n st' (omega (arith, le))))
       agree
 
-  meets-recording : (name : Bytes) (s : State) (a : S.State) (c : Completion ⊤) (d : S.Completion ⊤) → Stands config chair start world s a → Met c d → Agree (final (end_recording name s c)).asked world → Met (end_recording name s c) (C.end_recording name a d)
-  meets-recording name s a (normal x s') (S.normal y a') st h agree =
-      meets-save name (record { events = unwrap_or s'.collected []; length = s'.cursor }) (C.recording_in a') s s' a a' (record { events = recording-within s'.collected a'.collected h.1.collected; length = h.1.cursor }) st h.1 s'.units a'.units h.1.units agree
-  meets-recording name s a (early r s') (S.normal y a') st h agree =
-      only-ends config chair start world {A = ⊤} {B = ⊤} Any r (leave_recording s s') (C.end_recording name a (S.normal y a')) (only-moved r s' (leave_recording s s') refl h)
-  meets-recording name s a (normal x s') (S.early reason a') st h agree =
-      not-normal config chair start world reason (C.leave_recording a a') x s' (end_recording name s (normal x s')) (moved reason h)
-    where
-      moved : (reason : S.Reason) → EndsEarly config chair start world {A = ⊤} (normal x s') reason a' → EndsEarly config chair start world {A = ⊤} (normal x s') reason (C.leave_recording a a')
-      moved (S.decided verdict) h = tt
-      moved S.break h = absurd h
-      moved S.continue h = absurd h
-      moved (S.return w) h = absurd h
-      moved (S.raised y) h = absurd h
-      moved S.budget h = absurd h
-  meets-recording name s a (early r s') (S.early reason a') st h agree =
-      early-moved ⊤ ⊤ reason a' (C.leave_recording a a') r s' (leave_recording s s') refl (λ st'. left-stands s s' a a' st st') h
+  meets-recording : (name : Bytes) (s : State) (a : S.State) {c : Completion ⊤} {d : S.Completion ⊤} → Stands config chair start world s a → Met c d → Agree (final (end_recording name s c)).asked world → Met (end_recording name s c) (C.end_recording name a d)
+  meets-recording name s a st (stopped verdict a') agree = stopped verdict (C.leave_recording a a')
+  meets-recording name s a st (normally {s = s'} {a = a'} h st') agree =
+      meets-save name (record { events = unwrap_or s'.collected []; length = s'.cursor }) (C.recording_in a') s s' a a' (record { events = recording-within s'.collected a'.collected st'.collected; length = st'.cursor }) st st' s'.units a'.units st'.units agree
+  meets-recording name s a st (alike {s = s'} {a = a'} ends st') agree = alike ends (left-stands s s' a a' st st')
+  meets-recording name s a st (only ends safe) agree = only ends safe
 
   asked-recording : (name : Bytes) (s : State) (c : Completion ⊤) → AskedGrow (final c) (final (end_recording name s c))
   asked-recording name s (normal x s') =
@@ -263,7 +169,7 @@ module _ (config : Config) (ranges : AreInRange config) (chair : ℕ) (start : E
   pub follows_recorded : (name : Bytes) (body : Action ⊤) (bodies : S.Action ⊤) → Done body bodies → Done (recorded name body) (C.recorded name bodies)
   follows_recorded name body bodies f = record {
     grows = keeps_recorded AskedGrow AskedGrow asked_grow name body f.grows;
-    from = λ s a st agree. meets-recording name s a (body (record s { cursor = pos 0; collected = Some [] })) (bodies (record a { cursor = exactly (pos 0); collected = Some [] })) st
+    from = λ s a st agree. meets-recording name s a st
         (f.from (record s { cursor = pos 0; collected = Some [] }) (record a { cursor = exactly (pos 0); collected = Some [] })
         (T.stands-collected config chair start world (record s { cursor = pos 0 }) (record a { cursor = exactly (pos 0) }) (Some []) (Some []) (T.stands-cursor config chair start world s a (pos 0) (exactly (pos 0)) st (within-exactly (pos 0))) tt)
         (agree-grown (final (body (record s { cursor = pos 0; collected = Some [] }))) (final (end_recording name s (body (record s { cursor = pos 0; collected = Some [] })))) world (asked-recording name s (body (record s { cursor = pos 0; collected = Some [] }))) agree))
@@ -280,100 +186,29 @@ module _ (config : Config) (ranges : AreInRange config) (chair : ℕ) (start : E
   asked-try (early budget s) handle k = same-asked s
   asked-try (early unanswered s) handle k = same-asked s
 
-  meets-try : (c : Completion ⊤) (d : S.Completion ⊤) (handle : Exc → Action ⊤) (handles : Exc → S.Action ⊤) → Met c d → ((x : Exc) → Done (handle x) (handles x)) → Agree (final (after_try c handle)).asked world → Met (after_try c handle) (C.after_try d handles)
-  meets-try (normal x s) (S.normal y a) handle handles h f agree = h
-  meets-try (early budget s) (S.normal y a) handle handles h f agree = h
-  meets-try (early unanswered s) (S.normal y a) handle handles h f agree = h
-  meets-try (early break s) (S.normal y a) handle handles h f agree = absurd h
-  meets-try (early continue s) (S.normal y a) handle handles h f agree = absurd h
-  meets-try (early (return v) s) (S.normal y a) handle handles h f agree = absurd h
-  meets-try (early (raised x) s) (S.normal y a) handle handles h f agree = absurd h
-  meets-try c (S.early (S.decided verdict) a) handle handles h f agree = tt
-  meets-try (normal x s) (S.early (S.raised y) a) handle handles h f agree = absurd h
-  meets-try (early (raised x) s) (S.early (S.raised y) a) handle handles h f agree =
-      subst (λ z. Met (handle x s) (handles z a)) h.0 ((f x).from s a h.1 agree)
-  meets-try (early budget s) (S.early (S.raised y) a) handle handles h f agree = only-ends config chair start world {A = ⊤} {B = ⊤} Any budget s (handles y a) h
-  meets-try (early unanswered s) (S.early (S.raised y) a) handle handles h f agree = only-ends config chair start world {A = ⊤} {B = ⊤} Any unanswered s (handles y a) h
-  meets-try (early break s) (S.early (S.raised y) a) handle handles h f agree = absurd h
-  meets-try (early continue s) (S.early (S.raised y) a) handle handles h f agree = absurd h
-  meets-try (early (return v) s) (S.early (S.raised y) a) handle handles h f agree = absurd h
-  meets-try (normal x s) (S.early S.break a) handle handles h f agree = absurd h
-  meets-try (early break s) (S.early S.break a) handle handles h f agree = h
-  meets-try (early budget s) (S.early S.break a) handle handles h f agree = h
-  meets-try (early unanswered s) (S.early S.break a) handle handles h f agree = h
-  meets-try (early continue s) (S.early S.break a) handle handles h f agree = absurd h
-  meets-try (early (return v) s) (S.early S.break a) handle handles h f agree = absurd h
-  meets-try (early (raised x) s) (S.early S.break a) handle handles h f agree = absurd h
-  meets-try (normal x s) (S.early S.continue a) handle handles h f agree = absurd h
-  meets-try (early continue s) (S.early S.continue a) handle handles h f agree = h
-  meets-try (early budget s) (S.early S.continue a) handle handles h f agree = h
-  meets-try (early unanswered s) (S.early S.continue a) handle handles h f agree = h
-  meets-try (early break s) (S.early S.continue a) handle handles h f agree = absurd h
-  meets-try (early (return v) s) (S.early S.continue a) handle handles h f agree = absurd h
-  meets-try (early (raised x) s) (S.early S.continue a) handle handles h f agree = absurd h
-  meets-try (normal x s) (S.early (S.return w) a) handle handles h f agree = absurd h
-  meets-try (early (return v) s) (S.early (S.return w) a) handle handles h f agree = h
-  meets-try (early budget s) (S.early (S.return w) a) handle handles h f agree = h
-  meets-try (early unanswered s) (S.early (S.return w) a) handle handles h f agree = h
-  meets-try (early break s) (S.early (S.return w) a) handle handles h f agree = absurd h
-  meets-try (early continue s) (S.early (S.return w) a) handle handles h f agree = absurd h
-  meets-try (early (raised x) s) (S.early (S.return w) a) handle handles h f agree = absurd h
-  meets-try (normal x s) (S.early S.budget a) handle handles h f agree = absurd h
-  meets-try (early budget s) (S.early S.budget a) handle handles h f agree = h
-  meets-try (early unanswered s) (S.early S.budget a) handle handles h f agree = h
-  meets-try (early break s) (S.early S.budget a) handle handles h f agree = absurd h
-  meets-try (early continue s) (S.early S.budget a) handle handles h f agree = absurd h
-  meets-try (early (return v) s) (S.early S.budget a) handle handles h f agree = absurd h
-  meets-try (early (raised x) s) (S.early S.budget a) handle handles h f agree = absurd h
+  meets-try : {c : Completion ⊤} {d : S.Completion ⊤} {handle : Exc → Action ⊤} {handles : Exc → S.Action ⊤} → Met c d → ((x : Exc) → Done (handle x) (handles x)) → Agree (final (after_try c handle)).asked world → Met (after_try c handle) (C.after_try d handles)
+  meets-try (stopped verdict a) f agree = stopped verdict a
+  meets-try (normally h st) f agree = normally h st
+  meets-try (alike (by_raising x) st) f agree = (f x).from _ _ st agree
+  meets-try (alike by_break st) f agree = alike by_break st
+  meets-try (alike by_continue st) f agree = alike by_continue st
+  meets-try (alike (by_return h) st) f agree = alike (by_return h) st
+  meets-try (only by_budget safe) f agree = only by_budget safe
+  meets-try (only by_silence safe) f agree = only by_silence safe
 
   pub follows_attempt : (body : Action ⊤) (bodies : S.Action ⊤) (handle : Exc → Action ⊤) (handles : Exc → S.Action ⊤) → Done body bodies → ((x : Exc) → Done (handle x) (handles x)) → Done (attempt body handle) (C.attempt bodies handles)
   follows_attempt body bodies handle handles f g = record {
     grows = keeps_attempt AskedGrow AskedGrow asked_grow body handle f.grows (λ x. (g x).grows);
-    from = λ s a st agree. meets-try (body s) (bodies a) handle handles (f.from s a st (agree-grown (final (body s)) (final (after_try (body s) handle)) world (asked-try (body s) handle (λ x. (g x).grows)) agree)) g agree;
+    from = λ s a st agree. meets-try (f.from s a st (agree-grown (final (body s)) (final (after_try (body s) handle)) world (asked-try (body s) handle (λ x. (g x).grows)) agree)) g agree;
   }
 
   -- the end of a function
-  pub meets-left : (vs : List (Bytes × Value)) (ws : List (Bytes × Held)) (c : Completion ⊤) (d : S.Completion ⊤) → AreNamesWithin vs ws → Met c d → Meets config chair start world IsWithin (leave_function vs c) (G.leave_function ws d)
-  meets-left vs ws (normal x s) (S.normal y a) n h = (within-exactly (pos 0), T.stands-values config chair start world s a vs ws h.1 n)
-  meets-left vs ws (early budget s) (S.normal y a) n h = h
-  meets-left vs ws (early unanswered s) (S.normal y a) n h = h
-  meets-left vs ws (early break s) (S.normal y a) n h = absurd h
-  meets-left vs ws (early continue s) (S.normal y a) n h = absurd h
-  meets-left vs ws (early (return v) s) (S.normal y a) n h = absurd h
-  meets-left vs ws (early (raised x) s) (S.normal y a) n h = absurd h
-  meets-left vs ws c (S.early (S.decided verdict) a) n h = tt
-  meets-left vs ws (normal x s) (S.early (S.return w) a) n h = absurd h
-  meets-left vs ws (early (return v) s) (S.early (S.return w) a) n h = (h.0, T.stands-values config chair start world s a vs ws h.1 n)
-  meets-left vs ws (early budget s) (S.early (S.return w) a) n h = h
-  meets-left vs ws (early unanswered s) (S.early (S.return w) a) n h = h
-  meets-left vs ws (early break s) (S.early (S.return w) a) n h = absurd h
-  meets-left vs ws (early continue s) (S.early (S.return w) a) n h = absurd h
-  meets-left vs ws (early (raised x) s) (S.early (S.return w) a) n h = absurd h
-  meets-left vs ws (normal x s) (S.early (S.raised y) a) n h = absurd h
-  meets-left vs ws (early (raised x) s) (S.early (S.raised y) a) n h = (h.0, T.stands-values config chair start world s a vs ws h.1 n)
-  meets-left vs ws (early budget s) (S.early (S.raised y) a) n h = h
-  meets-left vs ws (early unanswered s) (S.early (S.raised y) a) n h = h
-  meets-left vs ws (early break s) (S.early (S.raised y) a) n h = absurd h
-  meets-left vs ws (early continue s) (S.early (S.raised y) a) n h = absurd h
-  meets-left vs ws (early (return v) s) (S.early (S.raised y) a) n h = absurd h
-  meets-left vs ws (normal x s) (S.early S.break a) n h = absurd h
-  meets-left vs ws (early break s) (S.early S.break a) n h = T.stands-values config chair start world s a vs ws h n
-  meets-left vs ws (early budget s) (S.early S.break a) n h = h
-  meets-left vs ws (early unanswered s) (S.early S.break a) n h = h
-  meets-left vs ws (early continue s) (S.early S.break a) n h = absurd h
-  meets-left vs ws (early (return v) s) (S.early S.break a) n h = absurd h
-  meets-left vs ws (early (raised x) s) (S.early S.break a) n h = absurd h
-  meets-left vs ws (normal x s) (S.early S.continue a) n h = absurd h
-  meets-left vs ws (early continue s) (S.early S.continue a) n h = T.stands-values config chair start world s a vs ws h n
-  meets-left vs ws (early budget s) (S.early S.continue a) n h = h
-  meets-left vs ws (early unanswered s) (S.early S.continue a) n h = h
-  meets-left vs ws (early break s) (S.early S.continue a) n h = absurd h
-  meets-left vs ws (early (return v) s) (S.early S.continue a) n h = absurd h
-  meets-left vs ws (early (raised x) s) (S.early S.continue a) n h = absurd h
-  meets-left vs ws (normal x s) (S.early S.budget a) n h = absurd h
-  meets-left vs ws (early budget s) (S.early S.budget a) n h = h
-  meets-left vs ws (early unanswered s) (S.early S.budget a) n h = h
-  meets-left vs ws (early break s) (S.early S.budget a) n h = absurd h
-  meets-left vs ws (early continue s) (S.early S.budget a) n h = absurd h
-  meets-left vs ws (early (return v) s) (S.early S.budget a) n h = absurd h
-  meets-left vs ws (early (raised x) s) (S.early S.budget a) n h = absurd h
+  pub meets-left : (vs : List (Bytes × Value)) (ws : List (Bytes × Held)) {c : Completion ⊤} {d : S.Completion ⊤} → AreNamesWithin vs ws → Met c d → Meets config chair start world IsWithin (leave_function vs c) (G.leave_function ws d)
+  meets-left vs ws n (stopped verdict a) = stopped verdict (record a { values = ws })
+  meets-left vs ws n (normally {s = s} {a = a} h st) = normally (within-exactly (pos 0)) (T.stands-values config chair start world s a vs ws st n)
+  meets-left vs ws n (alike {s = s} {a = a} (by_return h) st) = normally h (T.stands-values config chair start world s a vs ws st n)
+  meets-left vs ws n (alike {s = s} {a = a} by_break st) = alike by_break (T.stands-values config chair start world s a vs ws st n)
+  meets-left vs ws n (alike {s = s} {a = a} by_continue st) = alike by_continue (T.stands-values config chair start world s a vs ws st n)
+  meets-left vs ws n (alike {s = s} {a = a} (by_raising x) st) = alike (by_raising x) (T.stands-values config chair start world s a vs ws st n)
+  meets-left vs ws n (only by_budget safe) = only by_budget safe
+  meets-left vs ws n (only by_silence safe) = only by_silence safe

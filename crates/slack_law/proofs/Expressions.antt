@@ -22,7 +22,9 @@ use Rattle.timeline_sem.specs.Timeline.{delay, tell, no_value, first_of_list}
 use Rattle.timeline_sem.specs.Expressions.{Callee, number_in_value, list_in_value, read, read_element, operate, array_in, array_or_number, dataset_value, text_in, perform_builtin, perform_call, perform_method, unless_decided, expression, arguments}
 use Rattle.timeline_sem.proofs.Keeps.{keeps_bind, keeps_then, keeps_give, keeps_tell, keeps_read_element, keeps_operate, keeps_perform, keeps_builtin, keeps_expression, keeps_arguments}
 use Rattle.timeline_sem.proofs.KeepsWhole.{AskedGrow, asked_grow}
-use Rattle.slack_meaning.specs.Spans.{Span, exactly}
+use Rattle.slack_meaning.specs.declared.verdict.OpenKind.TheVariants as K
+use Rattle.slack_meaning.specs.declared.span.Span.{Span}
+use Rattle.slack_meaning.specs.Spans.{exactly}
 use Rattle.slack_meaning.specs.Actions.{Held}
 use Rattle.slack_meaning.specs.Actions as S
 use Rattle.slack_meaning.specs.Answers.{answered}
@@ -65,7 +67,7 @@ module _ (config : Config) (ranges : AreInRange config) (chair : ℕ) (start : E
 
   follows_data : (name : Bytes) (v : Value) (b : Bool) → F {A = ⊤} {B = ⊤} Any (tell (Q.Data name v)) (E.set_if b)
   follows_data name v true = follows_tell config ranges chair start world lawful (Q.Data name v) answered (answers-data config ranges chair name v)
-  follows_data name v false = record { grows = keeps_tell AskedGrow AskedGrow asked_grow (Q.Data name v); from = λ s a st agree. tt }
+  follows_data name v false = T.follows_left_open config chair start world (tell (Q.Data name v)) K.Span (keeps_tell AskedGrow AskedGrow asked_grow (Q.Data name v))
 
   grows_no_value : (m : Action ⊤) → Grows m → Grows (no_value m)
   grows_no_value m k = keeps_then AskedGrow AskedGrow asked_grow k (keeps_give AskedGrow AskedGrow asked_grow (pos 0))

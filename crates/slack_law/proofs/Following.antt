@@ -9,7 +9,7 @@ use Rattle.timeline_sem.proofs.Keeps.{Keeps, keeps_bind}
 use Rattle.timeline_sem.proofs.KeepsWhole.{AskedGrow, asked_grow, kept_final}
 use Rattle.slack_meaning.specs.Actions as S
 use Rattle.slack_law.specs.Promise.{Answered, requests_of}
-use Rattle.slack_law.proofs.Standing.{AreAllInTime, AreInTimeFor, Agree, Stands, IsSafe, OnlyEnds, EndsAlike, EndsEarly, Meets}
+use Rattle.slack_law.proofs.Standing.{AreAllInTime, AreInTimeFor, Agree, Stands, IsSafe, Meets, stopped, normally, alike, only}
 
 -- requests are only added
 abbrev pub Grows : {A : Type 0} → Action A → Type 0
@@ -61,70 +61,15 @@ module _ (config : Config) (chair : ℕ) (start : Entry) (world : List Answered)
       let there : AreInTimeFor (requests_of st.past) world = subst (λ xs. AreInTimeFor (requests_of st.past) xs) (sym st.whole) here in
       subst (λ qs. AreInTimeFor qs world) (sym st.asked) there
 
-  -- where only the kernel ends, it is met by any end
-  alike : (reason : S.Reason) (a : S.State) (r : Reason) (s : State) → OnlyEnds config chair start world r s → EndsAlike config chair start world reason a r s
-  alike (S.decided verdict) a r s h = tt
-  alike S.break a budget s h = h
-  alike S.break a unanswered s h = h
-  alike S.break a break s h = absurd h
-  alike S.break a continue s h = absurd h
-  alike S.break a (return n) s h = absurd h
-  alike S.break a (raised x) s h = absurd h
-  alike S.continue a budget s h = h
-  alike S.continue a unanswered s h = h
-  alike S.continue a break s h = absurd h
-  alike S.continue a continue s h = absurd h
-  alike S.continue a (return n) s h = absurd h
-  alike S.continue a (raised x) s h = absurd h
-  alike (S.return span) a budget s h = h
-  alike (S.return span) a unanswered s h = h
-  alike (S.return span) a break s h = absurd h
-  alike (S.return span) a continue s h = absurd h
-  alike (S.return span) a (return n) s h = absurd h
-  alike (S.return span) a (raised x) s h = absurd h
-  alike (S.raised y) a budget s h = h
-  alike (S.raised y) a unanswered s h = h
-  alike (S.raised y) a break s h = absurd h
-  alike (S.raised y) a continue s h = absurd h
-  alike (S.raised y) a (return n) s h = absurd h
-  alike (S.raised y) a (raised x) s h = absurd h
-  alike S.budget a r s h = h
-
-  early-alike : (A : Type 0) (reason : S.Reason) (a : S.State) (r : Reason) (s : State) → EndsAlike config chair start world reason a r s → EndsEarly config chair start world {A = A} (early r s) reason a
-  early-alike A (S.decided verdict) a r s h = tt
-  early-alike A S.break a r s h = h
-  early-alike A S.continue a r s h = h
-  early-alike A (S.return span) a r s h = h
-  early-alike A (S.raised y) a r s h = h
-  early-alike A S.budget a r s h = h
-
-  pub only-ends : {A B : Type 0} (good : A → B → Type 0) (r : Reason) (s : State) (d : S.Completion B) → OnlyEnds config chair start world r s → Meets config chair start world good (early r s) d
-  only-ends good r s (S.normal y a) h = h
-  only-ends {A} good r s (S.early reason a) h = early-alike A reason a r s (alike reason a r s h)
-
-  -- an early end goes on as it is
-  pub early-still : (A B : Type 0) (reason : S.Reason) (a : S.State) (r : Reason) (s : State) → EndsEarly config chair start world {A = A} (early r s) reason a → EndsEarly config chair start world {A = B} (early r s) reason a
-  early-still A B (S.decided verdict) a r s h = tt
-  early-still A B S.break a r s h = h
-  early-still A B S.continue a r s h = h
-  early-still A B (S.return span) a r s h = h
-  early-still A B (S.raised y) a r s h = h
-  early-still A B S.budget a r s h = h
-
-  pub not-normal : {A B : Type 0} (reason : S.Reason) (a : S.State) (x : A) (s : State) (c : Completion B) → EndsEarly config chair start world (normal x s) reason a → EndsEarly config chair start world c reason a
-  not-normal (S.decided verdict) a x s c h = tt
-  not-normal S.break a x s c h = absurd h
-  not-normal S.continue a x s c h = absurd h
-  not-normal (S.return span) a x s c h = absurd h
-  not-normal (S.raised y) a x s c h = absurd h
-  not-normal S.budget a x s c h = absurd h
-
   -- one part and then another
-  pub meets_go_on : {A B C D : Type 0} (good : A → B → Type 0) (better : C → D → Type 0) (c : Completion A) (d : S.Completion B) (f : A → Action C) (g : B → S.Action D) → Meets config chair start world good c d → ((x : A) (y : B) (s : State) (a : S.State) → good x y → Stands config chair start world s a → Agree (final (f x s)).asked world → Meets config chair start world better (f x s) (g y a)) → Agree (final (go_on c f)).asked world → Meets config chair start world better (go_on c f) (S.go_on d g)
-  meets_go_on good better (normal x s) (S.normal y a) f g h k agree = k x y s a h.0 h.1 agree
-  meets_go_on {C} good better (early r s) (S.normal y a) f g h k agree = only-ends better r s (g y a) h
-  meets_go_on {A} {C} good better (early r s) (S.early reason a) f g h k agree = early-still A C reason a r s h
-  meets_go_on good better (normal x s) (S.early reason a) f g h k agree = not-normal reason a x s (f x s) h
+  pub meets_go_on : {A B C D : Type 0} {good : A → B → Type 0} {better : C → D → Type 0} {c : Completion A} {d : S.Completion B} {f : A → Action C} {g : B → S.Action D}
+      → Meets config chair start world good c d
+      → ((x : A) (y : B) (s : State) (a : S.State) → good x y → Stands config chair start world s a → Agree (final (f x s)).asked world → Meets config chair start world better (f x s) (g y a))
+      → Agree (final (go_on c f)).asked world → Meets config chair start world better (go_on c f) (S.go_on d g)
+  meets_go_on (stopped verdict a) k agree = stopped verdict a
+  meets_go_on (normally h st) k agree = k _ _ _ _ h st agree
+  meets_go_on (alike ends st) k agree = alike ends st
+  meets_go_on (only ends safe) k agree = only ends safe
 
   before : {A C : Type 0} (c : Completion A) (f : A → Action C) → ((x : A) → Grows (f x)) → Agree (final (go_on c f)).asked world → Agree (final c).asked world
   before (normal x s) f k agree = agree-grown s (final (f x s)) world (grown (f x) (k x) s) agree
@@ -134,5 +79,5 @@ module _ (config : Config) (chair : ℕ) (start : Entry) (world : List Answered)
   follows_bind good better m n f g k grows h =
       record {
         grows = keeps_bind AskedGrow AskedGrow asked_grow k.grows grows;
-        from = λ s a st agree. meets_go_on good better (m s) (n a) f g (k.from s a st (before (m s) f grows agree)) (λ x y s' a' gd st' ag. (h x y gd).from s' a' st' ag) agree;
+        from = λ s a st agree. meets_go_on (k.from s a st (before (m s) f grows agree)) (λ x y s' a' gd st' ag. (h x y gd).from s' a' st' ag) agree;
       }

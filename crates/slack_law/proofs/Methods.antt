@@ -19,8 +19,10 @@ use Rattle.timeline_sem.proofs.Keeps.{keeps_bind, keeps_set_cursor, keeps_inquir
 use Rattle.timeline_sem.proofs.KeepsWhole.{AskedGrow, asked_grow}
 use Rattle.slack_meaning.specs.declared.verdict.OpenKind.{OpenKind}
 use Rattle.slack_meaning.specs.declared.verdict.OpenKind.TheVariants as K
-use Rattle.slack_meaning.specs.Spans.{Span, exactly, span_max}
-use Rattle.slack_meaning.specs.Actions.{SpanEvent, SpanRecording}
+use Rattle.slack_meaning.specs.declared.span.Span.{Span}
+use Rattle.slack_meaning.specs.Spans.{exactly, span_max}
+use Rattle.slack_meaning.specs.declared.span.SpanEvent.{SpanEvent}
+use Rattle.slack_meaning.specs.Actions.{SpanRecording}
 use Rattle.slack_meaning.specs.Actions as S
 use Rattle.slack_meaning.specs.Answers.{await, read_lead, erase}
 use Rattle.slack_meaning.specs.Timeline as L

@@ -17,7 +17,8 @@ use Rattle.timeline_sem.specs.Laws.{final}
 use Rattle.timeline_sem.specs.Programs.{initial_value, initial_values, leave_function, optional_body, function_call}
 use Rattle.timeline_sem.specs.Statements.{block}
 use Rattle.timeline_sem.proofs.KeepsWhole.{AskedGrow, asked_grow, keeps_body, keeps_function_call}
-use Rattle.slack_meaning.specs.Spans.{Span, exactly}
+use Rattle.slack_meaning.specs.declared.span.Span.{Span}
+use Rattle.slack_meaning.specs.Spans.{exactly}
 use Rattle.slack_meaning.specs.Actions.{Held}
 use Rattle.slack_meaning.specs.Actions as S
 use Rattle.slack_meaning.specs.Expressions as E
@@ -66,7 +67,7 @@ module _ (config : Config) (ranges : AreInRange config) (chair : ℕ) (start : E
         let body = follows_block config ranges chair start world lawful scope callee called grows follows f.body in
         let begins : State = record s { values = initial_values (names_of program f) xs } in
         let begun : S.State = record a { values = G.initial_values (names_of program f) ys } in
-        meets-left config ranges chair start world lawful s.values a.values (block scope callee f.body begins) (C.block scope called f.body begun) st.values
+        meets-left config ranges chair start world lawful s.values a.values st.values
         (body.from begins begun (T.stands-values config chair start world s a (initial_values (names_of program f) xs) (G.initial_values (names_of program f) ys) st (begun-within (names_of program f) xs ys h))
         (agree-grown (final (block scope callee f.body begins)) (final (leave_function s.values (block scope callee f.body begins))) world (asked-left s.values (block scope callee f.body begins)) agree));
   }

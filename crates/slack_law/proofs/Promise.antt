@@ -21,14 +21,15 @@ use Rattle.timeline_sem.specs.Actions.{State, Reason, break, continue, return, r
 use Rattle.timeline_sem.specs.Laws.{final}
 use Rattle.timeline_sem.specs.Programs.{meaning_of, opening, call_room, optional_body, function_call}
 use Rattle.slack_meaning.specs.declared.verdict.Verdict.TheVariants.{Yes}
+use Rattle.slack_meaning.specs.declared.verdict.Stopped.{Stopped}
 use Rattle.slack_meaning.specs.declared.verdict.Stopped.TheVariants as W
-use Rattle.slack_meaning.specs.Spans.{Span}
+use Rattle.slack_meaning.specs.declared.span.Span.{Span}
 use Rattle.slack_meaning.specs.Actions as S
 use Rattle.slack_meaning.specs.Programs as G
 use Rattle.slack_meaning.specs.Programs.{most_units, slack_verdict}
 use Rattle.slack_law.specs.Promise.{Answered, first_session, requests_of, replies_of, AreAskedBy, AreInTime, NeverUnderflows}
 use Rattle.slack_law.proofs.AnswerTimes.{open-after}
-use Rattle.slack_law.proofs.Standing.{IsWithin, AreInTimeFor, Agree, asked_entry, bounds_of, IsBounded, Stands, IsSafe, OnlyEnds, EndsAlike, EndsEarly, Meets}
+use Rattle.slack_law.proofs.Standing.{IsWithin, AreInTimeFor, Agree, asked_entry, bounds_of, IsBounded, Stands, IsSafe, Meets, stopped, normally, alike, only}
 use Rattle.slack_law.proofs.Following.{safe}
 use Rattle.slack_law.proofs.Within.{within-exactly}
 use Rattle.slack_law.proofs.Programs.{follows_body, grows_function_call, follows_function_call}
@@ -48,70 +49,17 @@ requests-of-meaning : (c : Completion ℤ) → (meaning_of c).requests ≡ (fina
 requests-of-meaning (normal v s) = refl
 requests-of-meaning (early reason s) = refl
 
-not-yes : (stopped : S.Stopped) (outs : ℕ) → G.verdict_where stopped ≡ Yes outs → ⊥
+not-yes : (stopped : Stopped) (outs : ℕ) → G.verdict_where stopped ≡ Yes outs → ⊥
 not-yes (W.TooLate n e limit) outs is = absurd (cc)
 not-yes (W.Unknown n why) outs is = absurd (cc)
 
 module _ (config : Config) (chair : ℕ) (start : Entry) (world : List Answered) where
-  ends-safe : (reason : S.Reason) (a : S.State) (r : Reason) (s : State) (outs : ℕ) → G.verdict_of {A = Span} (S.early reason a) ≡ Yes outs → EndsAlike config chair start world reason a r s → IsSafe config chair start world s
-  ends-safe (S.decided stopped) a r s outs is h = absurd (not-yes stopped outs is)
-  ends-safe S.break a break s outs is h = safe config chair start world s a h
-  ends-safe S.break a budget s outs is h = h
-  ends-safe S.break a unanswered s outs is h = h
-  ends-safe S.break a continue s outs is h = absurd h
-  ends-safe S.break a (return n) s outs is h = absurd h
-  ends-safe S.break a (raised x) s outs is h = absurd h
-  ends-safe S.continue a continue s outs is h = safe config chair start world s a h
-  ends-safe S.continue a budget s outs is h = h
-  ends-safe S.continue a unanswered s outs is h = h
-  ends-safe S.continue a break s outs is h = absurd h
-  ends-safe S.continue a (return n) s outs is h = absurd h
-  ends-safe S.continue a (raised x) s outs is h = absurd h
-  ends-safe (S.return w) a (return n) s outs is h = safe config chair start world s a h.1
-  ends-safe (S.return w) a budget s outs is h = h
-  ends-safe (S.return w) a unanswered s outs is h = h
-  ends-safe (S.return w) a break s outs is h = absurd h
-  ends-safe (S.return w) a continue s outs is h = absurd h
-  ends-safe (S.return w) a (raised x) s outs is h = absurd h
-  ends-safe (S.raised y) a (raised x) s outs is h = safe config chair start world s a h.1
-  ends-safe (S.raised y) a budget s outs is h = h
-  ends-safe (S.raised y) a unanswered s outs is h = h
-  ends-safe (S.raised y) a break s outs is h = absurd h
-  ends-safe (S.raised y) a continue s outs is h = absurd h
-  ends-safe (S.raised y) a (return n) s outs is h = absurd h
-  ends-safe S.budget a budget s outs is h = h
-  ends-safe S.budget a unanswered s outs is h = h
-  ends-safe S.budget a break s outs is h = absurd h
-  ends-safe S.budget a continue s outs is h = absurd h
-  ends-safe S.budget a (return n) s outs is h = absurd h
-  ends-safe S.budget a (raised x) s outs is h = absurd h
-
-  early-safe : (c : Completion ℤ) (reason : S.Reason) (a : S.State) (outs : ℕ) → G.verdict_of {A = Span} (S.early reason a) ≡ Yes outs → EndsEarly config chair start world c reason a → IsSafe config chair start world (final c)
-  early-safe c (S.decided stopped) a outs is h = absurd (not-yes stopped outs is)
-  early-safe (normal x s) S.break a outs is h = absurd h
-  early-safe (normal x s) S.continue a outs is h = absurd h
-  early-safe (normal x s) (S.return w) a outs is h = absurd h
-  early-safe (normal x s) (S.raised y) a outs is h = absurd h
-  early-safe (normal x s) S.budget a outs is h = absurd h
-  early-safe (early r s) S.break a outs is h = ends-safe S.break a r s outs is h
-  early-safe (early r s) S.continue a outs is h = ends-safe S.continue a r s outs is h
-  early-safe (early r s) (S.return w) a outs is h = ends-safe (S.return w) a r s outs is h
-  early-safe (early r s) (S.raised y) a outs is h = ends-safe (S.raised y) a r s outs is h
-  early-safe (early r s) S.budget a outs is h = ends-safe S.budget a r s outs is h
-
-  only-safe : (r : Reason) (s : State) → OnlyEnds config chair start world r s → IsSafe config chair start world s
-  only-safe budget s h = h
-  only-safe unanswered s h = h
-  only-safe break s h = absurd h
-  only-safe continue s h = absurd h
-  only-safe (return n) s h = absurd h
-  only-safe (raised x) s h = absurd h
-
   -- a run whose verdict is yes was safe
-  meets-safe : (c : Completion ℤ) (d : S.Completion Span) (outs : ℕ) → G.verdict_of d ≡ Yes outs → Meets config chair start world IsWithin c d → IsSafe config chair start world (final c)
-  meets-safe (normal x s) (S.normal y a) outs is h = safe config chair start world s a h.1
-  meets-safe (early r s) (S.normal y a) outs is h = only-safe r s h
-  meets-safe c (S.early reason a) outs is h = early-safe c reason a outs is h
+  meets-safe : {c : Completion ℤ} {d : S.Completion Span} (outs : ℕ) → G.verdict_of d ≡ Yes outs → Meets config chair start world IsWithin c d → IsSafe config chair start world (final c)
+  meets-safe outs is (stopped verdict a) = absurd (not-yes verdict outs is)
+  meets-safe outs is (normally {s = s} {a = a} h st) = safe config chair start world s a st
+  meets-safe outs is (alike {s = s} {a = a} ends st) = safe config chair start world s a st
+  meets-safe outs is (only ends h) = h
 
 none-some : (o : Option (ℕ × ℕ)) (p : ℕ × ℕ) → o ≡ None → o ≡ Some p → ⊥
 none-some o p h k = let clash : false ≡ true = sym (ap is_some h) ∙ ap is_some k in absurd (cc)
@@ -180,7 +128,7 @@ first-safe program function cost depth outs config ranges units chair (Start of 
     let agree : Agree (final c).asked world = subst (λ qs. Agree qs world) (sym all) (agree-self world asked.0) in
     let follows = follows_body config ranges chair start world session program (function_call program call_room) (G.function_call program call_room) (grows_function_call config ranges chair start world session program call_room) (follows_function_call config ranges chair start world session program call_room) (slice_get program function) [] [] tt in
     let met : Meets config chair start world IsWithin c d = follows.from s a stands agree in
-    all-in-time world asked.0 (subst (λ qs. AreInTimeFor qs world) all (meets-safe config chair start world c d outs says met))
+    all-in-time world asked.0 (subst (λ qs. AreInTimeFor qs world) all (meets-safe config chair start world outs says met))
 
 pub never-underflows : (program : ProgramTree) (function cost depth outs : ℕ) → slack_verdict program function cost depth ≡ Yes outs → NeverUnderflows program function cost depth
 never-underflows program function cost depth outs says config [] units ok same deep lawful few asked = All-nil (λ (a : Answered). a.reply ≢ answer.Underflow)

@@ -4,6 +4,7 @@ use Rattle.std.proofs.Common.{◌≡◌, ◌≢◌, ℕ, ◌+◌, ◌*◌, ◌�
 use Rattle.std.specs.Prelude.{ℤ, ◌≤ℤ◌}
 use Rattle.std.specs.List.{AllZip}
 use Rattle.rtio_types.specs.declared.event.Event.{Event}
+use Rattle.rtio_types.specs.declared.outcome.Exc.{Exc}
 use Rattle.rtio_types.specs.declared.request.Request.{Request}
 use Rattle.rtio_types.specs.declared.request.Reply.TheVariants as answer
 use Rattle.rtio_types.specs.declared.request.Value.{Value}
@@ -16,8 +17,10 @@ use Rattle.rtio_core.specs.declared.data.Config.{Config}
 use Rattle.rtio_core.specs.declared.data.Entry.{Entry}
 use Rattle.rtio_core.specs.Entries.{judged_history, kept_after, last_at, last_saved, limit as limit_of, open_session}
 use Rattle.timeline_sem.specs.Actions.{State, Reason, break, continue, return, raised, budget, unanswered, Completion, normal, early}
-use Rattle.slack_meaning.specs.Spans.{Span}
-use Rattle.slack_meaning.specs.Actions.{SpanEvent, SpanRecording, Held}
+use Rattle.slack_meaning.specs.declared.span.Span.{Span}
+use Rattle.slack_meaning.specs.declared.span.SpanEvent.{SpanEvent}
+use Rattle.slack_meaning.specs.Actions.{SpanRecording, Held}
+use Rattle.slack_meaning.specs.declared.verdict.Stopped.{Stopped}
 use Rattle.slack_meaning.specs.Actions as S
 use Rattle.slack_meaning.specs.Answers.{at_hand}
 use Rattle.slack_law.specs.Promise.{Answered, requests_of, replies_of}
@@ -155,55 +158,22 @@ module _ (config : Config) (chair : ℕ) (start : Entry) (world : List Answered)
   abbrev pub IsSafe : State → Type 0
   IsSafe s = AreInTimeFor s.asked world
 
-  -- an end of the kernel where the other run has no end
-  abbrev pub OnlyEnds : Reason → State → Type 0
-  OnlyEnds budget s = IsSafe s
-  OnlyEnds unanswered s = IsSafe s
-  OnlyEnds _ s = ⊥
+-- why the kernel ends where the other run needn't: it has no units or no replies left
+pub data OnlyEnds : Reason → Type 0 where
+  by_budget : OnlyEnds budget
+  by_silence : OnlyEnds unanswered
 
-  abbrev pub EndsByBreak : Reason → State → S.State → Type 0
-  EndsByBreak break s a = Stands s a
-  EndsByBreak budget s a = IsSafe s
-  EndsByBreak unanswered s a = IsSafe s
-  EndsByBreak _ s a = ⊥
+-- why both end early
+pub data EndsAlike : Reason → S.Reason → Type 0 where
+  by_break : EndsAlike break S.break
+  by_continue : EndsAlike continue S.continue
+  by_return : {n : ℤ} {span : Span} → IsWithin n span → EndsAlike (return n) (S.return span)
+  by_raising : (x : Exc) → EndsAlike (raised x) (S.raised x)
 
-  abbrev pub EndsByContinue : Reason → State → S.State → Type 0
-  EndsByContinue continue s a = Stands s a
-  EndsByContinue budget s a = IsSafe s
-  EndsByContinue unanswered s a = IsSafe s
-  EndsByContinue _ s a = ⊥
-
-  abbrev pub EndsByReturn : Span → Reason → State → S.State → Type 0
-  EndsByReturn span (return n) s a = IsWithin n span × Stands s a
-  EndsByReturn span budget s a = IsSafe s
-  EndsByReturn span unanswered s a = IsSafe s
-  EndsByReturn span _ s a = ⊥
-
-  abbrev pub EndsByRaising : Reason → S.Reason → State → S.State → Type 0
-  EndsByRaising (raised x) (S.raised y) s a = (x ≡ y) × Stands s a
-  EndsByRaising budget y s a = IsSafe s
-  EndsByRaising unanswered y s a = IsSafe s
-  EndsByRaising _ y s a = ⊥
-
-  -- both end alike; or the kernel has no units or replies left; or the verdict stands, and nothing is claimed
-  abbrev pub EndsAlike : S.Reason → S.State → Reason → State → Type 0
-  EndsAlike (S.decided verdict) a reason s = Unit {0}
-  EndsAlike S.break a reason s = EndsByBreak reason s a
-  EndsAlike S.continue a reason s = EndsByContinue reason s a
-  EndsAlike (S.return span) a reason s = EndsByReturn span reason s a
-  EndsAlike (S.raised y) a reason s = EndsByRaising reason (S.raised y) s a
-  EndsAlike S.budget a reason s = OnlyEnds reason s
-
-  abbrev pub EndsEarly : {A : Type 0} → Completion A → S.Reason → S.State → Type 0
-  EndsEarly c (S.decided verdict) a = Unit {0}
-  EndsEarly (normal x s) reason a = ⊥
-  EndsEarly (early r s) reason a = EndsAlike reason a r s
-
-  abbrev pub EndsNormally : {A B : Type 0} → (A → B → Type 0) → Completion A → B → S.State → Type 0
-  EndsNormally good (normal x s) y a = good x y × Stands s a
-  EndsNormally good (early r s) y a = OnlyEnds r s
-
-  -- an end of the run without a core is met by that of the kernel
-  abbrev pub Meets : {A B : Type 0} → (A → B → Type 0) → Completion A → S.Completion B → Type 0
-  Meets good c (S.normal y a) = EndsNormally good c y a
-  Meets good c (S.early reason a) = EndsEarly c reason a
+-- an end of the run without a core is met by that of the kernel: its verdict stands, and nothing is claimed; or both end
+-- alike; or only the kernel ends, and was safe up to there
+pub data Meets (config : Config) (chair : ℕ) (start : Entry) (world : List Answered) {A B : Type 0} (good : A → B → Type 0) : Completion A → S.Completion B → Type 0 where
+  stopped : {c : Completion A} (verdict : Stopped) (a : S.State) → Meets config chair start world good c (S.early (S.decided verdict) a)
+  normally : {x : A} {y : B} {s : State} {a : S.State} → good x y → Stands config chair start world s a → Meets config chair start world good (normal x s) (S.normal y a)
+  alike : {r : Reason} {t : S.Reason} {s : State} {a : S.State} → EndsAlike r t → Stands config chair start world s a → Meets config chair start world good (early r s) (S.early t a)
+  only : {r : Reason} {s : State} {d : S.Completion B} → OnlyEnds r → IsSafe config chair start world s → Meets config chair start world good (early r s) d

@@ -18,7 +18,8 @@ use Rattle.timeline_sem.specs.Expressions.{Callee, expression, read, write as wr
 use Rattle.timeline_sem.specs.Statements.{name_of_exception, operator_of, either, for_turns, values, optional_value, statement, block, parallel_block, otherwise, handler}
 use Rattle.timeline_sem.proofs.Keeps.{keeps_bind, keeps_give, keeps_skip, keeps_stop, keeps_write, keeps_read_element, keeps_write_element, keeps_operate}
 use Rattle.timeline_sem.proofs.KeepsWhole.{AskedGrow, asked_grow, keeps_block, keeps_statement, keeps_parallel, keeps_otherwise, keeps_for_turns}
-use Rattle.slack_meaning.specs.Spans.{Span, exactly, span_max}
+use Rattle.slack_meaning.specs.declared.span.Span.{Span}
+use Rattle.slack_meaning.specs.Spans.{exactly, span_max}
 use Rattle.slack_meaning.specs.Actions as S
 use Rattle.slack_meaning.specs.Expressions as E
 use Rattle.slack_meaning.specs.Statements as C

@@ -10,13 +10,18 @@ use Rattle.timeline_sem.specs.Actions.{State, break, continue, return, raised, b
 use Rattle.timeline_sem.specs.Laws.{final}
 use Rattle.timeline_sem.proofs.Keeps.{keeps_then, keeps_give, keeps_stop, keeps_skip, keeps_take_unit, keeps_cursor_now, keeps_set_cursor}
 use Rattle.timeline_sem.proofs.KeepsWhole.{AskedGrow, asked_grow}
-use Rattle.slack_meaning.specs.Spans.{Span, exactly, is_number, is_near, span_sum}
-use Rattle.slack_meaning.specs.Actions.{SpanEvent, Held}
+use Rattle.slack_meaning.specs.declared.verdict.OpenKind.{OpenKind}
+use Rattle.slack_meaning.specs.declared.verdict.OpenKind.TheVariants as K
+use Rattle.slack_meaning.specs.declared.verdict.Stopped.TheVariants as W
+use Rattle.slack_meaning.specs.declared.span.Span.{Span}
+use Rattle.slack_meaning.specs.Spans.{exactly, is_number, is_near, span_sum}
+use Rattle.slack_meaning.specs.declared.span.SpanEvent.{SpanEvent}
+use Rattle.slack_meaning.specs.Actions.{Held}
 use Rattle.slack_meaning.specs.Actions as S
 use Rattle.slack_meaning.specs.Timeline.{moved_if, moved}
 use Rattle.slack_law.specs.Promise.{Answered}
-use Rattle.slack_law.proofs.Standing.{IsWithin, IsCollectedWithin, AreNamesWithin, Agree, Stands, Meets}
-use Rattle.slack_law.proofs.Following.{Grows, Follows, after, safe, only-ends, follows_bind}
+use Rattle.slack_law.proofs.Standing.{IsWithin, IsCollectedWithin, AreNamesWithin, Agree, Stands, by_budget, by_break, by_continue, by_return, by_raising, Meets, stopped, normally, alike, only}
+use Rattle.slack_law.proofs.Following.{Grows, Follows, after, safe, follows_bind}
 use Rattle.slack_law.proofs.Answering.{Any}
 use Rattle.slack_law.proofs.Within.{within-exactly, number-within, sum-within, near-fits}
 use Rattle.rtio_types.specs.declared.request.Value.{Value}
@@ -98,34 +103,34 @@ module _ (config : Config) (chair : ℕ) (start : Entry) (world : List Answered)
 
   pub follows_give : {A B : Type 0} {good : A → B → Type 0} (x : A) (y : B) → good x y → F good (give x) (S.give y)
   follows_give x y h =
-      record { grows = keeps_give AskedGrow AskedGrow asked_grow x; from = λ s a st agree. (h, st) }
+      record { grows = keeps_give AskedGrow AskedGrow asked_grow x; from = λ s a st agree. normally h st }
 
   pub follows_skip : F {A = ⊤} {B = ⊤} Any skip S.skip
-  follows_skip = record { grows = keeps_skip AskedGrow AskedGrow asked_grow; from = λ s a st agree. (tt, st) }
+  follows_skip = record { grows = keeps_skip AskedGrow AskedGrow asked_grow; from = λ s a st agree. normally tt st }
 
   pub follows_break : {A B : Type 0} {good : A → B → Type 0} → F {A = A} {B = B} good (stop break) (S.stop S.break)
-  follows_break = record { grows = keeps_stop AskedGrow AskedGrow asked_grow break asked_grow.same; from = λ s a st agree. st }
+  follows_break = record { grows = keeps_stop AskedGrow AskedGrow asked_grow break asked_grow.same; from = λ s a st agree. alike by_break st }
 
   pub follows_continue : {A B : Type 0} {good : A → B → Type 0} → F {A = A} {B = B} good (stop continue) (S.stop S.continue)
   follows_continue =
-      record { grows = keeps_stop AskedGrow AskedGrow asked_grow continue asked_grow.same; from = λ s a st agree. st }
+      record { grows = keeps_stop AskedGrow AskedGrow asked_grow continue asked_grow.same; from = λ s a st agree. alike by_continue st }
 
   pub follows_return : {A B : Type 0} {good : A → B → Type 0} (n : ℤ) (span : Span) → IsWithin n span → F {A = A} {B = B} good (stop (return n)) (S.stop (S.return span))
   follows_return n span h =
-      record { grows = keeps_stop AskedGrow AskedGrow asked_grow (return n) asked_grow.same; from = λ s a st agree. (h, st) }
+      record { grows = keeps_stop AskedGrow AskedGrow asked_grow (return n) asked_grow.same; from = λ s a st agree. alike (by_return h) st }
 
   pub follows_raised : {A B : Type 0} {good : A → B → Type 0} (x : Exc) → F {A = A} {B = B} good (stop (raised x)) (S.stop (S.raised x))
   follows_raised x =
-      record { grows = keeps_stop AskedGrow AskedGrow asked_grow (raised x) asked_grow.same; from = λ s a st agree. (refl, st) }
+      record { grows = keeps_stop AskedGrow AskedGrow asked_grow (raised x) asked_grow.same; from = λ s a st agree. alike (by_raising x) st }
 
   pub follows_budget : {A B : Type 0} {good : A → B → Type 0} (n : S.Action B) → F {A = A} {B = B} good (stop budget) n
   follows_budget {good} n =
-      record { grows = keeps_stop AskedGrow AskedGrow asked_grow budget asked_grow.same; from = λ s a st agree. only-ends config chair start world good budget s (n a) (safe config chair start world s a st) }
+      record { grows = keeps_stop AskedGrow AskedGrow asked_grow budget asked_grow.same; from = λ s a st agree. only by_budget (safe config chair start world s a st) }
 
   unit-taken : (s : State) (a : S.State) (m n : ℕ) → StandsFor s a → m ≤ n → Meets config chair start world {A = ⊤} {B = ⊤} Any (take_unit_of m s) (S.take_unit_of n a)
-  unit-taken s a zero n st le = only-ends config chair start world {A = ⊤} {B = ⊤} Any budget s (S.take_unit_of n a) (safe config chair start world s a st)
+  unit-taken s a zero n st le = only by_budget (safe config chair start world s a st)
   unit-taken s a (suc m) zero st le = absurd (omega (arith, le))
-  unit-taken s a (suc m) (suc n) st le = (tt, stands-units s a m n st (omega (arith, le)))
+  unit-taken s a (suc m) (suc n) st le = normally tt (stands-units s a m n st (omega (arith, le)))
 
   pub follows_unit : F {A = ⊤} {B = ⊤} Any take_unit S.take_unit
   follows_unit =
@@ -133,11 +138,16 @@ module _ (config : Config) (chair : ℕ) (start : Entry) (world : List Answered)
 
   pub follows_cursor : F IsWithin cursor_now S.cursor_now
   follows_cursor =
-      record { grows = keeps_cursor_now AskedGrow AskedGrow asked_grow; from = λ s a st agree. (st.cursor, st) }
+      record { grows = keeps_cursor_now AskedGrow AskedGrow asked_grow; from = λ s a st agree. normally st.cursor st }
 
   pub follows_set : (t : ℤ) (span : Span) → IsWithin t span → F {A = ⊤} {B = ⊤} Any (set_cursor t) (S.set_cursor span)
   follows_set t span h =
-      record { grows = keeps_set_cursor AskedGrow AskedGrow asked_grow t; from = λ s a st agree. (tt, stands-cursor s a t span st h) }
+      record { grows = keeps_set_cursor AskedGrow AskedGrow asked_grow t; from = λ s a st agree. normally tt (stands-cursor s a t span st h) }
+
+  -- where the run without a core can't go on
+  pub follows_left_open : {A B : Type 0} {good : A → B → Type 0} (m : Action A) (why : OpenKind) → Grows m → F {A = A} {B = B} good m (S.leave_open why)
+  follows_left_open m why grows =
+      record { grows = grows; from = λ s a st agree. stopped (W.Unknown a.requests why) a }
 
   -- what isn't done on a core: where a number is wanted
   pub follows_number : {A B : Type 0} {good : A → B → Type 0} (n : ℤ) (span : Span) (m : Action A) (g : ℤ → S.Action B) → IsWithin n span → F good m (g n) → F good m (after (S.as_number span) g)
@@ -145,7 +155,7 @@ module _ (config : Config) (chair : ℕ) (start : Entry) (world : List Answered)
     where
       by : (b : Bool) → is_number span ≡ b → (s : State) (a : S.State) → StandsFor s a → Agree (final (m s)).asked world → Meets config chair start world good (m s) (S.go_on (S.number_if b span a) g)
       by true is s a st agree = subst (λ k. Meets config chair start world good (m s) (g k a)) (sym (number-within n span is h)) (f.from s a st agree)
-      by false isnt s a st agree = tt
+      by false isnt s a st agree = stopped (W.Unknown a.requests K.Span) a
 
   -- and where a span may not reach too far
   pub follows_span : {A B : Type 0} {good : A → B → Type 0} (test : Bool) (span : Span) (m : Action A) (g : Span → S.Action B) → Grows m → (test ≡ true → F good m (g span)) → F good m (after (S.span_if test span) g)
@@ -153,7 +163,7 @@ module _ (config : Config) (chair : ℕ) (start : Entry) (world : List Answered)
     where
       by : (b : Bool) → test ≡ b → (s : State) (a : S.State) → StandsFor s a → Agree (final (m s)).asked world → Meets config chair start world good (m s) (S.go_on (S.span_if b span a) g)
       by true near s a st agree = (f near).from s a st agree
-      by false far s a st agree = tt
+      by false far s a st agree = stopped (W.Unknown a.requests K.Far) a
 
   pub follows_reach : {A B : Type 0} {good : A → B → Type 0} (span : Span) (m : Action A) (g : Span → S.Action B) → Grows m → F good m (g span) → F good m (after (S.within_reach span) g)
   follows_reach span m g grows f = follows_span (is_number span || is_near span) span m g grows (λ near. f)

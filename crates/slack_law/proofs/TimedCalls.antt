@@ -19,14 +19,16 @@ use Rattle.timeline_sem.specs.Timeline.{delay, event_at, tell, with_event, appen
 use Rattle.timeline_sem.proofs.Keeps.{Kept, keeps_bind, keeps_then, keeps_give, keeps_set_cursor, keeps_delay, keeps_append, keeps_output, keeps_play_events, keeps_tell, keeps_play_reply}
 use Rattle.timeline_sem.proofs.KeepsWhole.{AskedGrow, asked_grow}
 use Rattle.slack_meaning.specs.declared.verdict.OpenKind.{OpenKind}
-use Rattle.slack_meaning.specs.Spans.{Span}
-use Rattle.slack_meaning.specs.Actions.{SpanEvent, SpanRecording}
+use Rattle.slack_meaning.specs.declared.verdict.Stopped.TheVariants as W
+use Rattle.slack_meaning.specs.declared.span.Span.{Span}
+use Rattle.slack_meaning.specs.declared.span.SpanEvent.{SpanEvent}
+use Rattle.slack_meaning.specs.Actions.{SpanRecording}
 use Rattle.slack_meaning.specs.Actions as S
 use Rattle.slack_meaning.specs.Answers.{submit, fetch}
 use Rattle.slack_meaning.specs.Timeline as L
 use Rattle.slack_law.specs.Promise.{Answered}
-use Rattle.slack_law.proofs.Standing.{IsWithin, IsEventWithin, AreEventsWithin, IsRecordingWithin, IsCollectedWithin, Agree, asked_entry, Stands, Meets}
-use Rattle.slack_law.proofs.Following.{Grows, Follows, after, safe, early-still, not-normal, follows_bind}
+use Rattle.slack_law.proofs.Standing.{IsWithin, IsEventWithin, AreEventsWithin, IsRecordingWithin, IsCollectedWithin, Agree, asked_entry, Stands, by_budget, Meets, stopped, normally, alike, only}
+use Rattle.slack_law.proofs.Following.{Grows, Follows, after, safe, follows_bind}
 use Rattle.slack_law.proofs.Asking.{Answers, follows_ask}
 use Rattle.slack_law.proofs.Answering.{Any}
 use Rattle.slack_law.proofs.AnsweringMore.{answers-out, answers-fetch}
@@ -44,11 +46,13 @@ module _ (config : Config) (ranges : AreInRange config) (chair : ℕ) (start : E
     from = λ s a st. subst (λ c. Agree (final c).asked world → Meets config chair start world good c (n a)) (same s) (f.from s a st);
   }
 
-  meets-map : {A B C : Type 0} (good : A → B → Type 0) (better : C → B → Type 0) (f : A → C) → ((x : A) (y : B) → good x y → better (f x) y) → (c : Completion A) (d : S.Completion B) → Meets config chair start world good c d → Meets config chair start world better (go_on c (λ x. give (f x))) d
-  meets-map good better f k (normal x s) (S.normal y a) h = (k x y h.0, h.1)
-  meets-map good better f k (early r s) (S.normal y a) h = h
-  meets-map {C} good better f k (normal x s) (S.early reason a) h = not-normal config chair start world reason a x s (normal (f x) s) h
-  meets-map {A} {C} good better f k (early r s) (S.early reason a) h = early-still config chair start world A C reason a r s h
+  meets-map : {A B C : Type 0} {good : A → B → Type 0} {better : C → B → Type 0} {c : Completion A} {d : S.Completion B} (f : A → C)
+      → ((x : A) (y : B) → good x y → better (f x) y) → Meets config chair start world good c d
+      → Meets config chair start world better (go_on c (λ x. give (f x))) d
+  meets-map f k (stopped verdict a) = stopped verdict a
+  meets-map f k (normally h st) = normally (k _ _ h) st
+  meets-map f k (alike ends st) = alike ends st
+  meets-map f k (only ends safe) = only ends safe
 
   asked-same : {A C : Type 0} (f : A → C) (c : Completion A) → (final (go_on c (λ x. give (f x)))).asked ≡ (final c).asked
   asked-same f (normal x s) = refl
@@ -58,7 +62,7 @@ module _ (config : Config) (ranges : AreInRange config) (chair : ℕ) (start : E
   pub follows_map : {A B C : Type 0} (good : A → B → Type 0) (better : C → B → Type 0) (f : A → C) (m : Action A) (n : S.Action B) → ((x : A) (y : B) → good x y → better (f x) y) → F good m n → F better (m >>= (λ x. give (f x))) n
   follows_map good better f m n k h = record {
     grows = keeps_bind AskedGrow AskedGrow asked_grow h.grows (λ x. keeps_give AskedGrow AskedGrow asked_grow (f x));
-    from = λ s a st agree. meets-map good better f k (m s) (n a) (h.from s a st (subst (λ qs. Agree qs world) (asked-same f (m s)) agree));
+    from = λ s a st agree. meets-map f k (h.from s a st (subst (λ qs. Agree qs world) (asked-same f (m s)) agree));
   }
 
   -- a unit and an answer
@@ -76,8 +80,8 @@ module _ (config : Config) (ranges : AreInRange config) (chair : ℕ) (start : E
       by : (s : State) (a : S.State) (st : Stands config chair start world s a) (n : ℕ) → a.units ≡ n → Meets config chair start world good (m s) (S.go_on (S.take_unit_of n a) (λ y. S.leave_open why))
       by s a st zero is =
           let le = st.units in
-          subst (λ c. Meets config chair start world good c (S.go_on (S.take_unit_of zero a) (λ y. S.leave_open why))) (sym (none s (omega (arith, le, is)))) (safe config chair start world s a st)
-      by s a st (suc n) is = tt
+          subst (λ c. Meets config chair start world good c (S.go_on (S.take_unit_of zero a) (λ y. S.leave_open why))) (sym (none s (omega (arith, le, is)))) (only by_budget (safe config chair start world s a st))
+      by s a st (suc n) is = stopped (W.Unknown a.requests why) (record a { units = n })
 
   pub follows_delay : (d : ℤ) (span : Span) → IsWithin d span → F {A = ⊤} {B = ⊤} Any (delay d) (L.delay span)
   follows_delay d span h =
@@ -95,7 +99,7 @@ module _ (config : Config) (ranges : AreInRange config) (chair : ℕ) (start : E
   follows_append : (e : Event) (f : SpanEvent) → IsEventWithin e f → F {A = ⊤} {B = ⊤} Any (append_event e) (L.append_event f)
   follows_append e f h = record {
     grows = keeps_append AskedGrow AskedGrow asked_grow e;
-    from = λ s a st agree. (tt, T.stands-collected config chair start world s a (with_event e s.collected) (L.with_event f a.collected) st (with-event e f s.collected a.collected h st.collected));
+    from = λ s a st agree. normally tt (T.stands-collected config chair start world s a (with_event e s.collected) (L.with_event f a.collected) st (with-event e f s.collected a.collected h st.collected));
   }
 
   follows_submit : (c : Option (List Event)) (d : Option (List SpanEvent)) (e : Event) (f : SpanEvent) → IsCollectedWithin c d → IsEventWithin e f → F {A = ⊤} {B = ⊤} Any (submit_or_collect c e) (L.submit_or_collect d f)

@@ -20,12 +20,15 @@ use Rattle.timeline_sem.specs.Numbers.{exact_result}
 use Rattle.timeline_sem.specs.Expressions.{value_of, with_value, number_in_value, list_in_value, read, write as write_name, or_raise, place_in, with_item, read_element, write_element, operate}
 use Rattle.timeline_sem.proofs.Keeps.{keeps_bind, keeps_give, keeps_read, keeps_write, keeps_or_raise, keeps_operate}
 use Rattle.timeline_sem.proofs.KeepsWhole.{AskedGrow, asked_grow}
-use Rattle.slack_meaning.specs.Spans.{Span, exactly, is_number, is_near, span_sum, span_less}
+use Rattle.slack_meaning.specs.declared.verdict.OpenKind.TheVariants as K
+use Rattle.slack_meaning.specs.declared.verdict.Stopped.TheVariants as Z
+use Rattle.slack_meaning.specs.declared.span.Span.{Span}
+use Rattle.slack_meaning.specs.Spans.{exactly, is_number, is_near, span_sum, span_less}
 use Rattle.slack_meaning.specs.Actions.{Held}
 use Rattle.slack_meaning.specs.Actions as S
 use Rattle.slack_meaning.specs.Expressions as E
 use Rattle.slack_law.specs.Promise.{Answered}
-use Rattle.slack_law.proofs.Standing.{IsWithin, AreWithin, IsValueWithin, AreNamesWithin, Agree, Stands, Meets}
+use Rattle.slack_law.proofs.Standing.{IsWithin, AreWithin, IsValueWithin, AreNamesWithin, Agree, Stands, Meets, stopped, normally}
 use Rattle.slack_law.proofs.Following.{Follows, after, follows_bind}
 use Rattle.slack_law.proofs.Answering.{Any}
 use Rattle.slack_law.proofs.Within.{within-exactly, number-within, sum-within, less-within, near-fits}
@@ -107,11 +110,11 @@ module _ (config : Config) (chair : ℕ) (start : Entry) (world : List Answered)
 
   pub follows_read : (x : Bytes) → F IsValueWithin (read x) (E.read x)
   follows_read x =
-      record { grows = keeps_read AskedGrow AskedGrow asked_grow x; from = λ s a st agree. (held-within s.values a.values x st.values, st) }
+      record { grows = keeps_read AskedGrow AskedGrow asked_grow x; from = λ s a st agree. normally (held-within s.values a.values x st.values) st }
 
   pub follows_write : (x : Bytes) (v : Value) (w : Held) → IsValueWithin v w → F {A = ⊤} {B = ⊤} Any (write_name x v) (E.write x w)
   follows_write x v w h =
-      record { grows = keeps_write AskedGrow AskedGrow asked_grow x v; from = λ s a st agree. (tt, T.stands-values config chair start world s a (with_value s.values x v) (E.with_held a.values x w) st (new-within s.values a.values x v w st.values h)) }
+      record { grows = keeps_write AskedGrow AskedGrow asked_grow x v; from = λ s a st agree. normally tt (T.stands-values config chair start world s a (with_value s.values x v) (E.with_held a.values x w) st (new-within s.values a.values x v w st.values h)) }
 
   follows_there : {A B : Type 0} (good : A → B → Type 0) (o : Option A) (p : Option B) (x : Exc) → IsThere good o p → F good (or_raise o x) (E.or_raise p x)
   follows_there good None None x h = T.follows_raised config chair start world x
@@ -148,8 +151,8 @@ module _ (config : Config) (chair : ℕ) (start : Entry) (world : List Answered)
   follows_reached n span h = record { grows = keeps_give AskedGrow AskedGrow asked_grow n; from = by (is_near span) refl }
     where
       by : (b : Bool) → is_near span ≡ b → (s : State) (a : S.State) → Stands config chair start world s a → Agree (final (give n s)).asked world → Meets config chair start world IsWithin (give n s) (S.span_if b span a)
-      by true near s a st agree = (h near, st)
-      by false far s a st agree = tt
+      by true near s a st agree = normally (h near) st
+      by false far s a st agree = stopped (Z.Unknown a.requests K.Far) a
 
   follows_sum : (x y : ℤ) (a b : Span) → IsWithin x a → IsWithin y b → F IsWithin (operate O.Add V.Int64 x y) (S.within_near (span_sum a b))
   follows_sum x y a b h k =
@@ -169,9 +172,9 @@ module _ (config : Config) (chair : ℕ) (start : Entry) (world : List Answered)
   follows_spans : (op : BinaryOperator) (t : ValueType) (x y : ℤ) (a b : Span) → IsWithin x a → IsWithin y b → F IsWithin (operate op t x y) (E.operate_spans op t a b)
   follows_spans O.Add V.Int64 x y a b h k = follows_sum x y a b h k
   follows_spans O.Subtract V.Int64 x y a b h k = follows_less x y a b h k
-  follows_spans O.Add t x y a b h k = record { grows = keeps_operate AskedGrow AskedGrow asked_grow O.Add t x y; from = λ s c st agree. tt }
-  follows_spans O.Subtract t x y a b h k = record { grows = keeps_operate AskedGrow AskedGrow asked_grow O.Subtract t x y; from = λ s c st agree. tt }
-  follows_spans op t x y a b h k = record { grows = keeps_operate AskedGrow AskedGrow asked_grow op t x y; from = λ s c st agree. tt }
+  follows_spans O.Add t x y a b h k = T.follows_left_open config chair start world (operate O.Add t x y) K.Span (keeps_operate AskedGrow AskedGrow asked_grow O.Add t x y)
+  follows_spans O.Subtract t x y a b h k = T.follows_left_open config chair start world (operate O.Subtract t x y) K.Span (keeps_operate AskedGrow AskedGrow asked_grow O.Subtract t x y)
+  follows_spans op t x y a b h k = T.follows_left_open config chair start world (operate op t x y) K.Span (keeps_operate AskedGrow AskedGrow asked_grow op t x y)
 
   pub follows_operate : (op : BinaryOperator) (t : ValueType) (x y : ℤ) (a b : Span) → IsWithin x a → IsWithin y b → F IsWithin (operate op t x y) (E.operate op t a b)
   follows_operate op t x y a b h k = by (is_number a && is_number b) refl

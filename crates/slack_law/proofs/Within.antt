@@ -5,7 +5,9 @@ use Rattle.std.specs.Int.{w64, int_wrap, int_max}
 use Rattle.std.specs.List.{AllZip}
 use Rattle.std.proofs.lemmas.Int.{int_wrap_fits, ints, clamps}
 use Rattle.std.proofs.lemmas.Bool.Decides.{Decides-int_eq}
-use Rattle.slack_meaning.specs.Spans.{Span, exactly, is_number, is_near, lies_near, span_sum, span_less, span_max}
+use Rattle.slack_meaning.specs.declared.span.Span.{Span}
+use Rattle.slack_meaning.specs.Spans.{exactly, is_number, is_near, lies_near, span_sum, span_less, span_max}
+use Rattle.slack_meaning.proofs.Spans.{near-ends, fits-near}
 use Rattle.slack_law.proofs.Standing.{IsWithin}
 
 pub within-exactly : (n : ℤ) → IsWithin n (exactly n)
@@ -41,28 +43,15 @@ max-within x y a b h k =
     let four = k.greatest in
     record { least = omega (arith, ints, clamps, one, three); greatest = omega (arith, ints, clamps, two, four) }
 
-le-of : (a b : ℤ) → int_le a b ≡ true → a ≤ℤ b
-le-of a b h = grind (arith, ints, h)
-
--- a number within a near span fits 64 bits
-fits-near : (n : ℤ) → neg_ℤ (pos (2 ^ 62)) ≤ℤ n → n ≤ℤ pos (2 ^ 62) → FitsSigned w64 n
-fits-near (pos n) low high = record { sfits = omega (arith, ints, high) }
-fits-near (negsuc n) low high = record { sfits = omega (arith, ints, low) }
-
+-- a number within a span that doesn't reach too far wraps to itself
 pub near-fits : (n : ℤ) (span : Span) → is_near span ≡ true → IsWithin n span → int_wrap w64 n ≡ n
 near-fits n span near h =
     let low = h.least in
     let high = h.greatest in
-    let ends = split (lies_near span.least) (lies_near span.greatest) near in
-    let parts = split (int_le (neg_ℤ (pos (2 ^ 62))) span.least) (int_le span.least (pos (2 ^ 62))) ends.0 in
-    let others = split (int_le (neg_ℤ (pos (2 ^ 62))) span.greatest) (int_le span.greatest (pos (2 ^ 62))) ends.1 in
-    let from = le-of (neg_ℤ (pos (2 ^ 62))) span.least parts.0 in
-    let to = le-of span.greatest (pos (2 ^ 62)) others.1 in
+    let ends = near-ends span near in
+    let from = ends.from in
+    let to = ends.to in
     int_wrap_fits w64 n (fits-near n (omega (arith, ints, low, from)) (omega (arith, ints, high, to)))
-  where
-    split : (a b : Bool) → (a && b) ≡ true → (a ≡ true) × (b ≡ true)
-    split true b h = (refl, h)
-    split false b h = absurd (cc)
 
 -- lists that go together, with one more behind each
 pub zip-push : {A B : Type 0} (R : A → B → Type 0) (xs : List A) (ys : List B) (x : A) (y : B) → AllZip R xs ys → R x y → AllZip R (xs ++ x ∷ []) (ys ++ y ∷ [])

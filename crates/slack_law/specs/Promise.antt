@@ -38,14 +38,15 @@ replies_of asked = map (λ (a : Answered). a.reply) asked
 -- the requests are the first ones of those that the function makes from cursor 0 with so many units under their replies
 abbrev pub AreAskedBy : ProgramTree → (function units : ℕ) → List Answered → Type 0
 AreAskedBy program function units asked =
-    (rest : List Request) × ((meaning program function [] (pos 0) units (replies_of asked)).requests ≡ requests_of asked ++ rest)
+    (rest : List Request)
+    × ((meaning program function [] (pos 0) units (replies_of asked)).requests ≡ requests_of asked ++ rest)
 
 -- none of the replies is an underflow
 abbrev pub AreInTime : List Answered → Type 0
 AreInTime asked = All (λ a. a.reply ≢ answer.Underflow) asked
 
--- on every core of that cost, whose lanes take that many events at least, whatever its history, a first session that runs
--- the function with at most a million units is never answered that an output is too late
+-- on every core of that cost, whose lanes take that many events at least, whatever its history, a first session that
+-- runs the function with at most a million units is never answered that an output is too late
 abbrev pub NeverUnderflows : ProgramTree → (function cost depth : ℕ) → Type 0
 NeverUnderflows program function cost depth =
     (config : Config) (history : List Entry) (units : ℕ)

@@ -1,6 +1,6 @@
--- What a part of a kernel does in a run without a core: as in the meaning on the timeline, but that values and the cursor
--- may be spans, and that in place of replies it has bounds for the core's limit and readings. It stops at the first
--- output that may come too late, and where it can't go on.
+-- What a part of a kernel does in a run without a core: as in the meaning on the timeline, but that values and the
+-- cursor may be spans, and that in place of replies it has bounds for the core's limit and readings. It stops at the
+-- first output that may come too late, and where it can't go on.
 use Rattle.std.specs.Prelude.{ℕ, zero, suc, List, Bool, true, false, ◌||◌, Option, ⊤, ℤ}
 use Rattle.rtio_types.specs.declared.outcome.Exc.{Exc}
 use Rattle.kern_syntax.specs.Tree.{Bytes}
@@ -23,8 +23,8 @@ pub data Held : Type 0 where
 
 -- the values of the names, the cursor, the units left, the outputs collected in a record block if one is open; a bound
 -- that the core's limit doesn't exceed, the least that its counter reads, how many outputs and how many requests were
--- asked; the names saved in this run, each with its last recording if it wasn't erased since; the cost of a request, and
--- how many events a lane takes at least
+-- asked; the names saved in this run, each with its last recording if it wasn't erased since; the cost of a request,
+-- and how many events a lane takes at least
 pub record State : Type 0 where
   pub values : List (Bytes × Held)
   pub cursor : Span

@@ -20,8 +20,8 @@ answered s = normal tt (counted s s.limit)
 abbrev pub earliest : SpanEvent → Event
 earliest e = record { channel = e.channel; address = e.address; value = e.value; stamp = e.stamp.least }
 
--- how far the limit may have got when an output is answered: fewer outputs than fill a lane don't wait, and another one waits
--- until the cycle before its own at most
+-- how far the limit may have got when an output is answered: fewer outputs than fill a lane don't wait, and another one
+-- waits until the cycle before its own at most
 abbrev pub limit_at : State → SpanEvent → ℕ
 limit_at s e =
     if nat_lt s.outs s.depth then s.limit else max s.limit (reading (cycle_of_stamp e.stamp.greatest - 1))
@@ -38,7 +38,10 @@ submit e s = submit_if (nat_le (cycle_of_stamp e.stamp.least) (whole_cycles s.li
 -- a wait until a moment, which the counter reads at a whole cycle
 abbrev pub await : ℤ → Action ⊤
 await moment s =
-    normal tt (record (counted s (max s.limit (reading (counter_reaching moment)))) { least = max s.least (reading (counter_reaching moment)) })
+    normal tt
+    (record (counted s (max s.limit (reading (counter_reaching moment)))) {
+      least = max s.least (reading (counter_reaching moment));
+    })
 
 -- the lead over a reading, by whether it may reach too far
 abbrev pub lead_if : Bool → Action Span
@@ -61,7 +64,8 @@ at_hand [] name = None
 at_hand (entry ∷ rest) name = if bytes_eq name entry.0 then entry.1 else at_hand rest name
 
 -- the names after one was saved or erased; a known one keeps its place
-abbrev pub with_recording : List (Bytes × Option SpanRecording) → Bytes → Option SpanRecording → List (Bytes × Option SpanRecording)
+abbrev pub with_recording : List (Bytes × Option SpanRecording) → Bytes → Option SpanRecording
+    → List (Bytes × Option SpanRecording)
 with_recording [] name new = (name, new) ∷ []
 with_recording (entry ∷ rest) name new =
     if bytes_eq name entry.0 then (entry.0, new) ∷ rest else entry ∷ with_recording rest name new

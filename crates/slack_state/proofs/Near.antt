@@ -3,7 +3,8 @@ use Rattle.std.proofs.Common.{◌≡◌, ◌^◌, Bool, true, false, Option, Som
 use Rattle.std.specs.Prelude.{negsuc, neg_ℤ, ◌&&◌, int_le}
 use Rattle.std.proofs.lemmas.Int.{ints}
 use Rattle.slack_meaning.specs.Actions.{State, normal, span_if, within_near}
-use Rattle.slack_meaning.specs.Spans.{Span, is_near, lies_near}
+use Rattle.slack_meaning.specs.declared.span.Span.{Span}
+use Rattle.slack_meaning.specs.Spans.{is_near, lies_near}
 
 le-of : (a b : ℤ) → int_le a b ≡ true → a ≤ℤ b
 le-of a b h = grind (arith, ints, h)
@@ -36,3 +37,32 @@ near_some span found s h = by (is_near span) h
     by : (b : Bool) → (if b then Some span else None) ≡ Some found → span_if b span s ≡ normal found s
     by true h = let same : span ≡ found = cc in ap (λ (x : Span). normal x s) same
     by false h = absurd (cc)
+
+-- a number, if it lies near
+abbrev pub near_number : ℤ → Option ℤ
+near_number n = if lies_near n then Some n else None
+
+-- the span with these ends
+abbrev pub between : ℤ → ℤ → Span
+between least greatest = record { least = least; greatest = greatest }
+
+-- two numbers that lie near are the ends of a span that is near
+pub both-near : (l g least greatest : ℤ) → Some least ≡ near_number l → Some greatest ≡ near_number g → Some (between least greatest) ≡ (if is_near (between l g) then Some (between l g) else None)
+both-near l g least greatest low high = by (lies_near l) (lies_near g) low high
+  where
+    by : (a b : Bool) → Some least ≡ (if a then Some l else None) → Some greatest ≡ (if b then Some g else None) → Some (between least greatest) ≡ (if a && b then Some (between l g) else None)
+    by true true low high =
+        let first : least ≡ l = cc in
+        let second : greatest ≡ g = cc in
+        λ i. Some (between (first i) (second i))
+    by true false low high = absurd (cc)
+    by false b low high = absurd (cc)
+
+-- one whose greatest end lies too far isn't
+pub far-greatest : (l g : ℤ) → None ≡ near_number g → None ≡ (if is_near (between l g) then Some (between l g) else None)
+far-greatest l g far = by (lies_near l) (lies_near g) far
+  where
+    by : (a b : Bool) → None ≡ (if b then Some g else None) → None ≡ (if a && b then Some (between l g) else None)
+    by true true far = absurd (cc)
+    by true false far = refl
+    by false b far = refl

@@ -51,7 +51,11 @@ fn near_sum(a: i64, b: i64) -> Option<i64>
     ensures { result ≡ (if lies_near (a +ℤ b) then Some (a +ℤ b) else None) }
 {
     let number = a.checked_add(b)?;
-    if lies_near(number) { Some(number) } else { None }
+    if lies_near(number) {
+        Some(number)
+    } else {
+        None
+    }
 }
 
 // A number less another, if it lies near enough.
@@ -59,7 +63,11 @@ fn near_difference(a: i64, b: i64) -> Option<i64>
     ensures { result ≡ (if lies_near (a -ℤ b) then Some (a -ℤ b) else None) }
 {
     let number = a.checked_sub(b)?;
-    if lies_near(number) { Some(number) } else { None }
+    if lies_near(number) {
+        Some(number)
+    } else {
+        None
+    }
 }
 
 /// The sum of two spans, end by end, if it doesn't reach too far.

@@ -1,0 +1,10 @@
+pub mod Inside
+pub mod Standing
+pub mod Following
+pub mod Values
+pub mod Answering
+pub mod TimedCalls
+pub mod Expressions
+pub mod Control
+pub mod Statements
+pub mod Programs
