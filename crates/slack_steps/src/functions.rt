@@ -1,6 +1,6 @@
 // How a function begins and ends: its call, the values of its names, and what it gives.
 
-ghost use Rattle.std.specs.Prelude.{◌≡◌, IfOk, option_copied, slice_get};
+ghost use Rattle.std.specs.Prelude.{◌≡◌, IfOk, slice_get};
 ghost use Rattle.slack_meaning.specs.Programs.{initial_value, initial_values};
 ghost use Rattle.slack_state.specs.Values.{held_of};
 ghost use Rattle.slack_steps.specs.Entering.{first_value};
@@ -48,6 +48,13 @@ fn first_variable(
     Ok(Variable::of(name, held))
 }
 
+// The argument at a place, if there is one.
+fn arg_at(args: &[Span], place: usize) -> Option<Span>
+    ensures { result ≡ slice_get args.now place }
+{
+    args.get(place).copied()
+}
+
 /// The names of a function with their values when it begins: the parameters have the arguments. The only error is want of
 /// memory.
 pub fn initial_values(
@@ -59,7 +66,7 @@ pub fn initial_values(
 {
     let mut values = Vec::new(alloc);
     for place in 0..names.len() {
-        let arg = args.get(place).copied();
+        let arg = arg_at(args, place);
         values.push(first_variable(alloc, &names.at(place), arg)?)?;
     }
     Ok(values)
