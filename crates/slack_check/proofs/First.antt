@@ -5,7 +5,7 @@ use Rattle.kern_syntax.specs.Tree.{FunctionTree}
 use Rattle.kern_syntax.specs.TreeOf.{function_of, tree_of}
 use Rattle.timeline_sem.specs.Programs.{call_room}
 use Rattle.slack_meaning.specs.declared.verdict.Verdict.{Verdict}
-use Rattle.slack_meaning.specs.Spans.{Span}
+use Rattle.slack_meaning.specs.declared.span.Span.{Span}
 use Rattle.slack_meaning.specs.Actions.{Completion, State}
 use Rattle.slack_meaning.specs.Programs.{function_call, most_units, opening, optional_body, slack_verdict, verdict_of}
 use Rattle.slack_state.specs.declared.early.Early.{Early}

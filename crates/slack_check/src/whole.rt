@@ -3,8 +3,9 @@
 ghost use Rattle.std.specs.Prelude.{◌≡◌, IfOk};
 ghost use Rattle.slack_meaning.specs.Actions as A;
 ghost use Rattle.slack_meaning.specs.Programs.{verdict_of, verdict_where};
-ghost use Rattle.slack_meaning.specs.Spans.{Span as Bounds};
+ghost use Rattle.slack_meaning.specs.declared.span.Span.{Span as Bounds};
 ghost use Rattle.slack_state.specs.Does.{Does};
+ghost use Rattle.slack_state.specs.Ends.{reason_of};
 
 use kern_names::{Functions, number_functions};
 use kern_syntax::Function;
@@ -43,18 +44,29 @@ fn verdict_where(stopped: Stopped) -> Verdict
     }
 }
 
-// The verdict at a run's end, where so many outputs were asked for: the one that stopped it, and else yes, however it ended. The
-// only error is want of memory.
+// The verdict where a run ended early, and so many outputs were asked for: the one that stopped it, and else yes.
+fn verdict_at(reason: Reason, outs: u64) -> Verdict
+    ensures { (s : A.State) (m : A.Completion Bounds) → outs ≡ s.outs → m ≡ A.early (reason_of reason) s → verdict_of m ≡ result }
+{
+    match reason {
+        Reason::Decided(stopped) => verdict_where(stopped),
+        _ => Verdict::Yes {
+            outs,
+        },
+    }
+}
+
+// The verdict at a run's end, where so many outputs were asked for. The only error is want of memory.
 fn verdict_of(ran: Result<Span, Early>, outs: u64) -> Result<Verdict, AllocError>
     ensures { (s : A.State) (m : A.Completion Bounds) → outs ≡ s.outs → Does ran s m →
         IfOk result (λ verdict. verdict_of m ≡ verdict) }
 {
     match ran {
-        Err(Early::Memory) => Err(AllocError),
-        Err(Early::Ended(Reason::Decided(stopped))) => Ok(verdict_where(stopped)),
-        _ => Ok(Verdict::Yes {
+        Ok(_) => Ok(Verdict::Yes {
             outs,
         }),
+        Err(Early::Ended(reason)) => Ok(verdict_at(reason, outs)),
+        Err(Early::Memory) => Err(AllocError),
     }
 }
 

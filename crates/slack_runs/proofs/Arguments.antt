@@ -6,7 +6,7 @@ use Rattle.kern_syntax.specs.declared.expression.Argument.TheFolds.{the_lemmas}
 use Rattle.kern_syntax.specs.Tree.{Arguments, no_more}
 use Rattle.kern_syntax.specs.TreeOf.{argument_of}
 use Rattle.kern_calls.specs.Types.{Scope}
-use Rattle.slack_meaning.specs.Spans.{Span}
+use Rattle.slack_meaning.specs.declared.span.Span.{Span}
 use Rattle.slack_meaning.specs.Actions.{State, Completion, Action, normal, early, give, go_on, ◌>>=◌}
 use Rattle.slack_meaning.specs.Expressions.{Callee, arguments}
 use Rattle.slack_state.specs.declared.early.Early.{Early}

@@ -4,7 +4,7 @@ use Rattle.std.specs.Prelude.{⊤}
 use Rattle.rtio_types.specs.declared.outcome.Exc.TheVariants.{StackOverflow}
 use Rattle.kern_syntax.specs.Tree.{Bytes, FunctionTree, ProgramTree}
 use Rattle.kern_calls.specs.Types.{Names, function_named, names_of}
-use Rattle.slack_meaning.specs.Spans.{Span}
+use Rattle.slack_meaning.specs.declared.span.Span.{Span}
 use Rattle.slack_meaning.specs.Actions.{Held, State, raised, Completion, normal, early, Action, go_on, give, stop, take_unit}
 use Rattle.slack_meaning.specs.Expressions.{Callee}
 use Rattle.slack_meaning.specs.Programs.{function_body, function_call, initial_values, leave_function, optional_body}

@@ -6,7 +6,7 @@ use Rattle.kern_syntax.specs.declared.statement.Augment.{Augment}
 use Rattle.kern_syntax.specs.Tree.{Bytes, Expression, binary, augment_element}
 use Rattle.kern_calls.specs.declared.types.ValueType.{ValueType}
 use Rattle.kern_calls.specs.Types.{Scope, type_of}
-use Rattle.slack_meaning.specs.Spans.{Span}
+use Rattle.slack_meaning.specs.declared.span.Span.{Span}
 use Rattle.slack_meaning.specs.Actions.{State, Completion, Action, normal, go_on, ◌>>=◌}
 use Rattle.slack_meaning.specs.Expressions.{Callee, expression, operate, read_element}
 use Rattle.slack_meaning.specs.Statements.{statement}

@@ -3,7 +3,7 @@ use Rattle.std.specs.Prelude.{◌≡◌, List, Option, Some, None, Result, Ok, E
 use Rattle.std.specs.Global.{Global}
 use Rattle.kern_syntax.specs.Tree.{Arguments, no_more, value_then, text_then}
 use Rattle.kern_calls.specs.Types.{Scope}
-use Rattle.slack_meaning.specs.Spans.{Span}
+use Rattle.slack_meaning.specs.declared.span.Span.{Span}
 use Rattle.slack_meaning.specs.Actions.{State, Completion, Action, normal, give, ◌>>=◌}
 use Rattle.slack_meaning.specs.Expressions.{Callee, expression}
 use Rattle.slack_state.specs.declared.early.Early.{Early}

@@ -6,8 +6,8 @@ use Rattle.std.proofs.lemmas.Int.{to_z-of_z}
 use Rattle.std.proofs.lemmas.Result.{err_from_is_err_and}
 use Rattle.kern_syntax.specs.declared.expression.Argument.TheFolds.{the_lemmas}
 use Rattle.kern_syntax.specs.declared.statement.StmtKind.TheFolds as Statements
-use Rattle.kern_syntax.specs.Tree.{FunctionTree, binary, no_more}
-use Rattle.kern_syntax.specs.TreeOf.{expression_of, arguments_of, argument_of, block_of, function_of, handlers_of}
+use Rattle.kern_syntax.specs.Tree.{FunctionTree, Statement, augment_element, binary, no_more}
+use Rattle.kern_syntax.specs.TreeOf.{expression_of, arguments_of, argument_of, augment_of, block_of, function_of, handlers_of}
 use Rattle.kern_calls.specs.Types.{function_named, names_of, type_of}
 use Rattle.kern_names.specs.ScopeOf.{program_of}
 use Rattle.rtio_types.specs.Integers.{is_true}
@@ -22,7 +22,7 @@ use Rattle.meaning_frames.proofs.Items.{drop_item}
 use Rattle.meaning_frames.proofs.Turning.{next_fits}
 use Rattle.slack_meaning.specs.Actions.{normal, early, give, as_number, ◌>>=◌}
 use Rattle.slack_meaning.specs.Expressions.{arguments, expression}
-use Rattle.slack_meaning.specs.Statements.{block, for_turns, turn, while_loop, while_turns}
+use Rattle.slack_meaning.specs.Statements.{block, for_turns, statement, turn, while_loop, while_turns}
 use Rattle.slack_meaning.specs.Programs.{function_body, function_call, initial_values, optional_body}
 use Rattle.slack_state.specs.Does.{Does, EndsAs}
 use Rattle.slack_state.specs.Ends.{reason_of}
@@ -33,7 +33,7 @@ use Rattle.slack_runs.proofs.Arguments.{argument_read, argument_ended}
 use Rattle.slack_runs.proofs.Entered.{call_entered, left_function, room_left}
 use Rattle.slack_runs.proofs.Handled.{handled, unhandled}
 use Rattle.slack_runs.proofs.Operated.{binary_then, sum_then}
-use Rattle.slack_runs.proofs.Turning.{for_here, while_here}
+use Rattle.slack_runs.proofs.Turning.{for_here, while_here, while_over, while_stopped}
 use Rattle.slack_runs.proofs.+runs.Goals as goal
 
 -- left to the prover these would be sought by `search` first, for minutes and in vain
@@ -136,28 +136,28 @@ pub simple::augment_element-returns : goal.simple::augment_element-returns
 simple::augment_element-returns t c =
     sum_then (scope_in c.args.frame.now) (calls_in c.args.frame.now) c.args.x.now (expression_of c.args.index.now) c.args.operator (expression_of c.args.e.now) c.args.state.now c.evaluate.new.state c.evaluate-2.new.state c.set_sum.new.state c.in_ok-place.place c.in_ok-held.held c.in_ok-added.added c.set_sum.result c.in_ok-place.ensures c.in_ok-held.ensures c.in_ok-added.ensures c.set_sum.ensures
 
-pub loops::run_while-loop-left-preserved : goal.loops::run_while-loop-left-preserved
-loops::run_while-loop-left-preserved t c =
+pub loops::run_while-loop-holds-preserved : goal.loops::run_while-loop-holds-preserved
+loops::run_while-loop-holds-preserved t c =
     let scope = scope_in c.args.frame.now in
     let callee = calls_in c.args.frame.now in
     let condition = expression scope callee (expression_of c.args.condition.now) in
     let body = block scope callee (block_of c.args.body.now) in
-    let s = c.loop-left.state in
+    let s = c.loop-holds.state in
     let one = c.evaluate.new.state in
     let left = c.run_turn.new.state in
     let holds = c.in_ok-holds.holds in
     let n = c.in_ok-number.field-0 in
-    let less = c.loop-left.left - 1 in
+    let less = c.loop-holds.left - 1 in
     let again = while_turns less condition body in
     let fits : FitsSigned w64 n = search rules in
-    let more : c.loop-left.left ≡ suc less = omega (arith, c.if-left-eq0.false) in
+    let more : c.loop-holds.left ≡ suc less = omega (arith, c.if-left-eq0.false) in
     let found : condition s ≡ normal holds one = c.in_ok-holds.ensures in
     let counted : as_number holds one ≡ normal n one = c.in_ok-number.ensures in
     let truth : c.is_true.result ≡ true = search rules in
     let is : is_true n ≡ true = ap is_true (sym (to_z-of_z w64 n fits)) ∙ sym c.is_true.ensures ∙ truth in
     let goes : c.in_ok-run_turn.field-0 ≡ true = search rules in
     let on : turn body again one ≡ again left = subst (λ b. GoesOn (Ok b) left (turn body again one) again) goes (c.in_ok-run_turn.ensures again) in
-    while_here condition body s one holds n _ less found counted is (c.loop-left.invariant ∙ ap (λ k. while_turns k condition body s) more) ∙ on
+    while_here condition body s one holds n _ less found counted is (c.loop-holds.invariant ∙ ap (λ k. while_turns k condition body s) more) ∙ on
 
 pub loops::run_turns-returns-in_err-run_for_turn : goal.loops::run_turns-returns-in_err-run_for_turn
 loops::run_turns-returns-in_err-run_for_turn t c =
@@ -301,21 +301,21 @@ loops::run_while-returns-in_err-run_turn t c =
     let callee = calls_in c.args.frame.now in
     let condition = expression scope callee (expression_of c.args.condition.now) in
     let body = block scope callee (block_of c.args.body.now) in
-    let s = c.loop-left.state in
+    let s = c.loop-holds.state in
     let one = c.evaluate.new.state in
     let left = c.run_turn.new.state in
     let holds = c.in_ok-holds.holds in
     let n = c.in_ok-number.field-0 in
-    let less = c.loop-left.left - 1 in
+    let less = c.loop-holds.left - 1 in
     let again = while_turns less condition body in
     let whole = while_loop condition body c.args.state.now in
     let fits : FitsSigned w64 n = search rules in
-    let more : c.loop-left.left ≡ suc less = omega (arith, c.if-left-eq0.false) in
+    let more : c.loop-holds.left ≡ suc less = omega (arith, c.if-left-eq0.false) in
     let found : condition s ≡ normal holds one = c.in_ok-holds.ensures in
     let counted : as_number holds one ≡ normal n one = c.in_ok-number.ensures in
     let truth : c.is_true.result ≡ true = search rules in
     let is : is_true n ≡ true = ap is_true (sym (to_z-of_z w64 n fits)) ∙ sym c.is_true.ensures ∙ truth in
-    let here : whole ≡ turn body again one = while_here condition body s one holds n whole less found counted is (c.loop-left.invariant ∙ ap (λ k. while_turns k condition body s) more) in
+    let here : whole ≡ turn body again one = while_here condition body s one holds n whole less found counted is (c.loop-holds.invariant ∙ ap (λ k. while_turns k condition body s) more) in
     let end = c.in_err-run_turn.field-0.0 in
     let ended : EndsAs end left (turn body again one) = c.in_err-run_turn.ensures again in
     let all : EndsAs end left whole = subst (EndsAs end left) (sym here) ended in
@@ -328,21 +328,64 @@ loops::run_while-returns-then-not-branch t c =
     let callee = calls_in c.args.frame.now in
     let condition = expression scope callee (expression_of c.args.condition.now) in
     let body = block scope callee (block_of c.args.body.now) in
-    let s = c.loop-left.state in
+    let s = c.loop-holds.state in
     let one = c.evaluate.new.state in
     let left = c.run_turn.new.state in
     let holds = c.in_ok-holds.holds in
     let n = c.in_ok-number.field-0 in
-    let less = c.loop-left.left - 1 in
+    let less = c.loop-holds.left - 1 in
     let again = while_turns less condition body in
     let whole = while_loop condition body c.args.state.now in
     let fits : FitsSigned w64 n = search rules in
-    let more : c.loop-left.left ≡ suc less = omega (arith, c.if-left-eq0.false) in
+    let more : c.loop-holds.left ≡ suc less = omega (arith, c.if-left-eq0.false) in
     let found : condition s ≡ normal holds one = c.in_ok-holds.ensures in
     let counted : as_number holds one ≡ normal n one = c.in_ok-number.ensures in
     let truth : c.is_true.result ≡ true = search rules in
     let is : is_true n ≡ true = ap is_true (sym (to_z-of_z w64 n fits)) ∙ sym c.is_true.ensures ∙ truth in
-    let here : whole ≡ turn body again one = while_here condition body s one holds n whole less found counted is (c.loop-left.invariant ∙ ap (λ k. while_turns k condition body s) more) in
+    let here : whole ≡ turn body again one = while_here condition body s one holds n whole less found counted is (c.loop-holds.invariant ∙ ap (λ k. while_turns k condition body s) more) in
     let over : c.in_ok-run_turn.field-0 ≡ false = search rules in
     let done = subst (λ b. GoesOn (Ok b) left (turn body again one) again) over (c.in_ok-run_turn.ensures again) in
     here ∙ done
+
+pub loops::run_while-returns-in_err-number : goal.loops::run_while-returns-in_err-number
+loops::run_while-returns-in_err-number t c =
+    let scope = scope_in c.args.frame.now in
+    let callee = calls_in c.args.frame.now in
+    let condition = expression scope callee (expression_of c.args.condition.now) in
+    let body = block scope callee (block_of c.args.body.now) in
+    let s = c.loop-holds.state in
+    let one = c.evaluate.new.state in
+    let holds = c.in_ok-holds.holds in
+    let reason = c.in_err-number.field-0.0 in
+    let whole = while_loop condition body c.args.state.now in
+    let found : condition s ≡ normal holds one = c.in_ok-holds.ensures in
+    let stopped : as_number holds one ≡ early (reason_of reason) one = c.in_err-number.ensures in
+    let all : whole ≡ early (reason_of reason) one = while_stopped condition body s one holds whole (reason_of reason) c.loop-holds.left found stopped c.loop-holds.invariant in
+    let p = err_from_is_err_and c.from_residual-in_err-number.result c.from_residual-in_err-number.ensures.1 in
+    rw (p.1, p.2) all
+
+pub loops::run_while-returns-then-not-is_true : goal.loops::run_while-returns-then-not-is_true
+loops::run_while-returns-then-not-is_true t c =
+    let scope = scope_in c.args.frame.now in
+    let callee = calls_in c.args.frame.now in
+    let condition = expression scope callee (expression_of c.args.condition.now) in
+    let body = block scope callee (block_of c.args.body.now) in
+    let s = c.loop-holds.state in
+    let one = c.evaluate.new.state in
+    let holds = c.in_ok-holds.holds in
+    let n = c.in_ok-number.field-0 in
+    let fits : FitsSigned w64 n = search rules in
+    let found : condition s ≡ normal holds one = c.in_ok-holds.ensures in
+    let counted : as_number holds one ≡ normal n one = c.in_ok-number.ensures in
+    let truth : c.is_true.result ≡ false = search rules in
+    let isnt : is_true n ≡ false = ap is_true (sym (to_z-of_z w64 n fits)) ∙ sym c.is_true.ensures ∙ truth in
+    while_over condition body s one holds (while_loop condition body c.args.state.now) n c.loop-holds.left found counted isnt c.loop-holds.invariant
+
+pub simple::augment-returns-in-Element : goal.simple::augment-returns-in-Element
+simple::augment-returns-in-Element t c =
+    let index = expression_of c.in-Element.index in
+    let e = expression_of c.args.e.now in
+    let does : Statement → Type 0 = λ s. Does c.augment_element.result c.augment_element.new.state (statement (scope_in c.args.frame.now) (calls_in c.args.frame.now) s c.args.state.now) in
+    let tree : augment_of c.args.target.now c.args.operator e ≡ augment_element c.in-Element.x index c.args.operator e = ap (λ target. augment_of target c.args.operator e) c.in-Element.is in
+    let called : does (augment_element c.bytes-in-Element.result.now index c.args.operator e) = c.augment_element.ensures in
+    subst does (ap (λ x. augment_element x index c.args.operator e) c.bytes-in-Element.ensures ∙ sym tree) called

@@ -131,16 +131,16 @@ invariant-timed::run_parallel-loop-statement l =
       small : block_size (lines_of (drop l.statement-index l.statement-items)) ≤ block_size (block_of l.fn.body);
     }
 
-abbrev pub invariant-loops::run_while-loop-left : goal.invariant-loops::run_while-loop-left
-invariant-loops::run_while-loop-left l =
+abbrev pub invariant-loops::run_while-loop-holds : goal.invariant-loops::run_while-loop-holds
+invariant-loops::run_while-loop-holds l =
     while_loop (expression (scope_in l.fn.frame) (calls_in l.fn.frame) (expression_of l.fn.condition)) (block (scope_in l.fn.frame) (calls_in l.fn.frame) (block_of l.fn.body)) l.initial.state ≡ while_turns l.left (expression (scope_in l.fn.frame) (calls_in l.fn.frame) (expression_of l.fn.condition)) (block (scope_in l.fn.frame) (calls_in l.fn.frame) (block_of l.fn.body)) l.state
 
 abbrev pub invariant-loops::run_turns-loop-at : goal.invariant-loops::run_turns-loop-at
 invariant-loops::run_turns-loop-at l =
     for_turns (int_gap l.fn.from l.fn.to) l.fn.x l.fn.from (block (scope_in l.fn.frame) (calls_in l.fn.frame) (block_of l.fn.body)) l.initial.state ≡ for_turns (int_gap l.at l.fn.to) l.fn.x l.at (block (scope_in l.fn.frame) (calls_in l.fn.frame) (block_of l.fn.body)) l.state
 
-abbrev pub decreases-loops::run_while-loop-left : goal.decreases-loops::run_while-loop-left
-decreases-loops::run_while-loop-left l = l.left
+abbrev pub decreases-loops::run_while-loop-holds : goal.decreases-loops::run_while-loop-holds
+decreases-loops::run_while-loop-holds l = l.left
 
 abbrev pub decreases-loops::run_turns-loop-at : goal.decreases-loops::run_turns-loop-at
 decreases-loops::run_turns-loop-at l = int_gap l.at l.fn.to
