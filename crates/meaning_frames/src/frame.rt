@@ -6,7 +6,7 @@ ghost use Rattle.meaning_steps.specs.RunnableStatements.{AreRunnableFunctions};
 
 use kern_names::Scope;
 
-/// A function that runs, in a program whose functions can run. Contracts see what it knows by `scope_in` and `calls_in`.
+/// A function that runs, in a program whose functions can run. Contracts see the names that it knows by `scope_in`.
 #[derive(Clone, Copy)]
 pub struct Frame<'a> {
     /// The functions of the program and the names of this one.
