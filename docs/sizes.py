@@ -16,8 +16,8 @@ def lines(files):
 def of_crate(name):
     crate = ROOT / "crates" / name
     code = lines(crate.glob("src/**/*.rt"))
-    # Tests stand in crates of tests alone, which are named so, but for one.
-    is_of_tests = name.endswith("_examples") or name == "sched_histories"
+    # Tests stand in crates of tests alone and in programs over tables, which are named so, but for one.
+    is_of_tests = name.endswith(("_examples", "_rows")) or name == "sched_histories"
     return [
         0 if is_of_tests else code,
         code if is_of_tests else 0,
