@@ -31,7 +31,8 @@ const MAX_DUMP: u64 = 33_554_432;
 /// `compile` it reads one and writes the image of its code, which does what the text means; under `exec` it reads such an
 /// image, runs it and writes its report; under `gen` it writes the generated text; under `dump` it reads a kernel's text, runs
 /// it and writes what its core did as bytes; under `vcd` it reads such bytes and writes their waveform; under `sat` it reads a
-/// kernel's text, runs it, sends what its core put out over a link with credits, and writes what became of each event.
+/// kernel's text, runs it, sends what its core put out over a link with credits, and writes what became of each event; under
+/// `slack` it reads one and writes whether an output of it can come too late, without a run.
 ///
 /// The status is 0 where all was done; 1 where a text is refused, and 9 where an image or a dump is; 2 where the words aren't
 /// accepted; 3 where the source failed, and 4 where a sink did; 5 for want of memory; 6 where the run raised an exception; 7
@@ -70,6 +71,8 @@ pub fn sim_top<S: Source, K: Sink, E: Sink>(
     // what the source's timeline submits under the kept replies, less what was overridden, which a later output of its channel
     // and stamp was, and what the log names as sequence error, collision, busy or cleared; and an output underflowed exactly
     // where the counter had reached its cycle, with only earlier ones submitted.
+    // Under `slack` it is the line of the verdict; where that is a yes, no output of the kernel's first session underflows on any
+    // core of this cost and at least this depth.
     ensures due { (result ≡ 0) ⊎ ((result ≡ 6) ⊎ (result ≡ 7)) → GivesDue (asked_of (map string_bytes words.now)) (S.left source.old) (S.left source.new) (K.held out.old) (K.held out.new) result
         × (E.held err.new ≡ E.held err.old) }
     // A sink failed, and has a part of what was due.
