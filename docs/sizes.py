@@ -57,6 +57,12 @@ def below(all_crates, name):
     return met
 
 
+def nearest(all_crates, name):
+    """The crates that a crate names, less those that others of them stand on."""
+    needs = all_crates[name].needs
+    return [need for need in needs if not any(need in below(all_crates, other) for other in needs)]
+
+
 def lines(files):
     return sum(1 for file in files for line in file.read_text().splitlines() if line.strip())
 
