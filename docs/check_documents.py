@@ -16,7 +16,7 @@ status 1 where something is otherwise than written, and says where. What it trie
 - Where a sentence says that a text in backquotes gives, or is told as, a line in backquotes, the text is refused so.
 - Each kernel in examples/ gives its report under the options in its `.words`, and stands with all three in the test of
   sim_examples. Each session there that has a report gives it.
-- Each path in backquotes is there. ARCHITECTURE.md has the picture that sizes.py prints, names each file of definitions or
+- Each path in backquotes is there, in RECIPES.md below crates/ too. ARCHITECTURE.md has the picture that sizes.py prints, names each file of definitions or
   its folder, and lists the crates of crates.txt in its order, each with the crates that it stands on and clauses that it
   has. Each word in backquotes in CONTRACTS.md stands in the code of the crate that its heading names, and in the map of
   BELIEVING.md in the files beside it. The numbers of definitions and lines there are those of definitions.py, to a tenth.
@@ -38,13 +38,14 @@ GIVES = re.compile(r"`([^`\n]+)` (?:gives|is told as) `((?:lex|syntax|type|code)
 COMMAND = re.compile(r"^    ((?:bin/artiq_sim (?:sim|check|compile|exec|gen|dump|vcd)|bin/artiq_lab|head|python3 docs/(?!check_documents))[^#\n]*)", re.M)
 COUNTED = re.compile(r"\| `python3 docs/definitions\.py ?([^`]*)` \| some ([\d,]+) \| ([\d,]+) \|$", re.M)
 ROW = re.compile(r"^\| (\w+) \| (.*) \| ?([\w, ]*?) ?\|$", re.M)
-# The scripts of docs/ with their words, and the program that each needs beside the built ones. One is imported alone.
+# The scripts of docs/ with their words, and the program that each needs beside the built ones.
 SCRIPTS = {
     "accepted_by_gtkwave.py": (["--program", "bin/artiq_sim"], "vcd2fst"),
     "definitions.py": ([], None),
     "sizes.py": (["--house"], None),
     "what_stands_on.py": (["rtio_core"], None),
 }
+BELOW_CRATES = re.compile(r"`((?!docs/|bench/|examples/)\w+/[\w./-]+)`")
 PATH = re.compile(r"`((?:docs|crates|examples|bench|bin)/[\w./-]+)`")
 
 
@@ -136,6 +137,9 @@ class Checker:
             self.refused(where, text, line)
         for name in PATH.findall(prose):
             self.expect(where, name, (ROOT / name).exists(), True)
+        if path.name == "RECIPES.md":
+            for name in BELOW_CRATES.findall(prose):
+                self.expect(where, name, (ROOT / "crates" / name).exists(), True)
 
     def examples(self):
         tests = (ROOT / "crates/sim_examples/src/examples.rt").read_text()
