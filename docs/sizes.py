@@ -1,12 +1,13 @@
 #!/usr/bin/env python3
-"""Prints how large each crate is: lines of code, of its tests, of definitions and of proofs, and the number of its must-fail
-edits. Lines that are empty don't count.
+"""Prints how large each crate is: lines of code, of its tests, of definitions and of proofs, and the numbers of its must-fail
+edits that the gate tries, and of those that stand aside. Lines that are empty don't count.
 
     python3 docs/sizes.py             # a row a crate, in the sections of crates.txt, with the sum of each
     python3 docs/sizes.py --house     # the picture of docs/ARCHITECTURE.md with the lines of code and tests, definitions and proofs
     python3 docs/sizes.py --plain     # the picture alone
 
-Edits are those of `must-fail/`, which the gate tries, and those of `edits/NAME/` at the top, which are tried by hand.
+Edits that the gate tries stand in a crate's `must-fail/`, those aside in `edits/NAME/` at the top. What the section of tests
+has counts as tests.
 """
 import collections
 import pathlib
@@ -15,7 +16,7 @@ import sys
 import textwrap
 
 ROOT = pathlib.Path(__file__).resolve().parent.parent
-COLUMNS = ("code", "tests", "specs", "proofs", "edits")
+COLUMNS = ("code", "tests", "specs", "proofs", "edits", "aside")
 WIDTH = 100
 
 
@@ -67,19 +68,18 @@ def lines(files):
     return sum(1 for file in files for line in file.read_text().splitlines() if line.strip())
 
 
-def sizes_of(name):
+def sizes_of(crate):
     """How large a crate is, by COLUMNS."""
-    crate = ROOT / "crates" / name
-    code = lines(crate.glob("src/**/*.rt"))
-    # Tests stand in crates of tests alone, which are named so, but for one.
-    is_of_tests = name.endswith("_examples") or name == "sched_histories"
-    edits = [*crate.glob("must-fail/*.edit"), *(ROOT / "edits" / name).glob("*.edit")]
+    folder = ROOT / "crates" / crate.name
+    code = lines(folder.glob("src/**/*.rt"))
+    is_of_tests = crate.section[0] == "tests"
     return (
         0 if is_of_tests else code,
         code if is_of_tests else 0,
-        lines(crate.glob("specs/*.antt")),
-        lines(crate.glob("proofs/**/*.antt")),
-        len(edits),
+        lines(folder.glob("specs/*.antt")),
+        lines(folder.glob("proofs/**/*.antt")),
+        len(list(folder.glob("must-fail/*.edit"))),
+        len(list((ROOT / "edits" / crate.name).glob("*.edit"))),
     )
 
 
@@ -101,17 +101,19 @@ def table(all_crates):
     yield f"{'':26}" + "".join(f"{column:>9}" for column in COLUMNS)
     for (section, _), groups in in_sections(all_crates).items():
         names = [name for group in groups.values() for name in group]
-        yield row(section, added([sizes_of(name) for name in names]))
+        yield row(section, added([sizes_of(all_crates[name]) for name in names]))
         for name in names:
-            yield row(f"    {name}", sizes_of(name))
-    yield row("all", added([sizes_of(name) for name in all_crates]))
+            yield row(f"    {name}", sizes_of(all_crates[name]))
+    yield row("all", added([sizes_of(crate) for crate in all_crates.values()]))
 
 
 def house(all_crates, has_sizes):
     """The picture: a box a layer, a row a group."""
     def numbers(names):
-        code, tests, specs, proofs, _ = added([sizes_of(name) for name in names])
-        return f"{code + tests:8}{specs:8}{proofs:8}" if has_sizes else ""
+        if not has_sizes:
+            return ""
+        code, tests, specs, proofs, *_ = added([sizes_of(all_crates[name]) for name in names])
+        return f"{code + tests:8}{specs:8}{proofs:8}"
 
     if has_sizes:
         yield f"{'':{WIDTH + 1}}{'code':>8}{'specs':>8}{'proofs':>8}"
