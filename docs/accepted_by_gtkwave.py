@@ -3,8 +3,9 @@
 
     python3 docs/accepted_by_gtkwave.py [--program PATH]
 
-Run where GTKWave's `vcd2fst` is installed; `docs/check_documents.py` runs it there. Each kernel of examples/ is run by `dump` with the words that stand beside
-it, `vcd` makes its waveform, and the converter has to accept it. Ends with 1 where one is refused.
+Run where GTKWave's `vcd2fst` is installed; `docs/check_documents.py` runs it there. Each kernel of examples/ is run by `dump`
+with the words that stand beside it, `vcd` makes its waveform, and the converter has to accept it. Ends with 1 where one is
+refused.
 """
 
 import pathlib

@@ -1,9 +1,9 @@
 #!/usr/bin/env python3
-"""Prints how large each crate is: lines of code, of its tests, of definitions and of proofs, and the numbers of its must-fail
-edits that the gate tries, and of those that stand aside. Lines that are empty don't count.
+"""Prints how large each crate is: lines of code, of its tests, of definitions and of proofs, and the numbers of its
+must-fail edits that the gate tries, and of those that stand aside. Lines that are empty don't count.
 
     python3 docs/sizes.py             # a row a crate, in the sections of crates.txt, with the sum of each
-    python3 docs/sizes.py --house     # the picture of docs/ARCHITECTURE.md with the lines of code and tests, definitions and proofs
+    python3 docs/sizes.py --house     # the picture of docs/ARCHITECTURE.md with lines of code, definitions and proofs
     python3 docs/sizes.py --plain     # the picture alone
 
 Edits that the gate tries stand in a crate's `must-fail/`, those aside in `edits/NAME/` at the top. What the section of tests
