@@ -17,7 +17,7 @@ status 1 where something is otherwise than written, and says where. What it trie
 - Each kernel in examples/ gives its report under the options in its `.words`, and stands with all three in the test of
   sim_examples. Where it has `.links`, each line "$ sat WORDS" there gives the lines below it. Each session there that has a
   report gives it.
-- Each path in backquotes is there, in RECIPES.md below crates/ too. ARCHITECTURE.md has the picture that sizes.py prints,
+- Each path in backquotes is there, in RECIPES.md below crates/ too, but for those with NAME, any crate. ARCHITECTURE.md has the picture that sizes.py prints,
   names each file of definitions or its folder, and lists the crates of crates.txt in its order, each with the crates that
   it stands on and clauses that it has. Each word in backquotes in CONTRACTS.md stands in the code of the crate that its
   heading names, and in the map of BELIEVING.md in the files beside it. The numbers of definitions and lines there are those
@@ -47,8 +47,9 @@ SCRIPTS = {
     "sizes.py": (["--house"], None),
     "what_stands_on.py": (["rtio_core"], None),
 }
-BELOW_CRATES = re.compile(r"`((?!docs/|bench/|examples/)\w+/[\w./-]+)`")
-PATH = re.compile(r"`((?:docs|crates|examples|bench|bin)/[\w./-]+)`")
+# Paths, but for those of any crate, NAME.
+BELOW_CRATES = re.compile(r"`((?!docs/|bench/|examples/|completions/)(?![^`]*NAME)\w+/[\w./-]+)`")
+PATH = re.compile(r"`((?![^`]*NAME)(?:docs|crates|examples|bench|bin|launch|completions)/[\w./-]+)`")
 
 
 class Checker:
