@@ -14,8 +14,8 @@ status 1 where something is otherwise than written, and says where. What it trie
   it is what that writes: on standard output, at status 1 on standard error.
 - In a table with the columns line, text and mended, the text is refused with the line, and the mended one isn't refused.
 - Where a sentence says that a text in backquotes gives, or is told as, a line in backquotes, the text is refused so.
-- Each kernel in examples/ gives its report under the options in its `.words`, and stands with all three in the test of
-  sim_examples. Where it has `.links`, each line "$ sat WORDS" there gives the lines below it. Each session there that has a
+- Each kernel in examples/ gives its report under the options in its `.words`, and stands with all three in a row of
+  sim_rows. Where it has `.links`, each line "$ sat WORDS" there gives the lines below it. Each session there that has a
   report gives it.
 - Each path in backquotes is there, in RECIPES.md below crates/ too, but for those with NAME, any crate. ARCHITECTURE.md has the picture that sizes.py prints,
   names each file of definitions or its folder, and lists the crates of crates.txt in its order, each with the crates that
@@ -145,16 +145,17 @@ class Checker:
                 self.expect(where, name, (ROOT / "crates" / name).exists(), True)
 
     def examples(self):
-        tests = (ROOT / "crates/sim_examples/src/examples.rt").read_text()
+        rows = (ROOT / "crates/sim_rows/data/examples.rows").read_text()
         for example in sorted((ROOT / "examples").glob("*.py")):
             report = example.with_suffix(".report").read_text()
             words = example.with_suffix(".words")
             options = words.read_text().split() if words.exists() else []
             _, out, err = self.program("sim", example.read_text(), options)
             self.expect(example.name, "its report", (out, err), (report, ""))
-            for text in (example.read_text(), report, *options):
-                literal = text.replace("\\", "\\\\").replace('"', '\\"').replace("\n", "\\n")
-                self.expect(example.name, "its test", f'"{literal}"' in tests, True)
+            question = "".join(f"| {line}".rstrip() + "\n" for line in example.read_text().splitlines())
+            answer = "".join(f"> {line}".rstrip() + "\n" for line in report.splitlines())
+            row = question + " ".join(["$ sim", *options]) + "\n" + answer
+            self.expect(example.name, "its row", row in rows, True)
 
     def links(self):
         for links in sorted((ROOT / "examples").glob("*.links")):

@@ -1,5 +1,5 @@
 -- An argument before others.
-use Rattle.std.proofs.Common.{rules, ◌≡◌, ◌≤◌, ℕ, arith, List, ◌++◌, refl, sym, ap, ◌∙◌, append_assoc, subst, Option}
+use Rattle.std.proofs.Common.{rules, ◌≡◌, List, ◌++◌, refl, sym, ap, ◌∙◌, append_assoc, subst, Option}
 use Rattle.std.specs.Prelude.{ℤ, option_to_list}
 use Rattle.kern_syntax.specs.declared.expression.Argument.{Argument}
 use Rattle.kern_syntax.specs.declared.expression.Argument.TheFolds.{the_lemmas}
@@ -11,8 +11,7 @@ use Rattle.meaning_state.specs.declared.early.Early.TheVariants as E
 use Rattle.meaning_state.specs.Does.{EndsAs}
 use Rattle.timeline_sem.specs.Actions.{State, Completion, Action, normal, early, give, go_on, ◌>>=◌}
 use Rattle.timeline_sem.specs.Expressions.{Callee, arguments}
-use Rattle.meaning_steps.specs.Runnable.{first_argument, AreRunnable}
-use Rattle.meaning_runs.proofs.Sizes.{arguments_size}
+use Rattle.meaning_steps.specs.Runnable.{first_argument}
 
 -- a value that only becomes another one
 pub bind_give : {A B C : Type 0} (m : Completion A) (f : A → B) (next : B → Action C) → go_on (go_on m (λ a. give (f a))) next ≡ go_on m (λ a. next (f a))
@@ -32,14 +31,6 @@ ended_then E.Memory left m next is = tt
 -- an argument runs before the others
 pub arguments_first : (scope : Scope) (callee : Callee) (argument : Argument) (rest : Arguments) (s : State) → arguments scope callee (argument_of argument rest) s ≡ go_on (first_argument scope callee (argument_of argument no_more) s) (λ a. arguments scope callee rest >>= (λ others. give (option_to_list a ++ others)))
 arguments_first scope callee argument rest s = search (rules, the_lemmas, bind_give)
-
--- the arguments that are left can run
-pub runnable_rest : (argument : Argument) (rest : Arguments) → AreRunnable (argument_of argument rest) → AreRunnable rest
-runnable_rest argument rest are = search (rules, the_lemmas)
-
--- and are no larger than with it
-pub smaller_rest : (argument : Argument) (rest : Arguments) {n : ℕ} → arguments_size (argument_of argument rest) ≤ n → arguments_size rest ≤ n
-smaller_rest argument rest {n} small = search (rules, the_lemmas, arith)
 
 module _ (scope : Scope) (callee : Callee) where
   -- one argument more has run

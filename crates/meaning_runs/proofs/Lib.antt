@@ -1,7 +1,5 @@
 mod Arguments
 mod Entered
 mod Handled
-mod Items
 mod Operated
-mod Sizes
 mod Turning

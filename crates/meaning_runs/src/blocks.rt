@@ -3,18 +3,19 @@
 ghost use Rattle.std.specs.Prelude.{option_map};
 ghost use Rattle.kern_syntax.specs.Tree.{Otherwise, no_else};
 ghost use Rattle.kern_syntax.specs.TreeOf.{block_of, elif_of, else_of, statement_of};
-ghost use Rattle.meaning_runs.specs.Frames.{calls_in, scope_in};
+ghost use Rattle.meaning_frames.specs.Frames.{scope_in};
+ghost use Rattle.meaning_runs.specs.Frames.{calls_in};
 ghost use Rattle.meaning_state.specs.Does.{Does};
 ghost use Rattle.meaning_steps.specs.RunnableStatements.{IsRunnableBlock, IsRunnableOtherwise, IsRunnableStatement};
 ghost use Rattle.meaning_steps.specs.Turns.{GoesOn};
 ghost use Rattle.timeline_sem.specs.Statements.{block, otherwise, statement};
 
 use crate::expressions::evaluate;
-use crate::frame::Frame;
 use crate::loops::{run_for, run_while};
 use crate::simple::{assign, assign_list, assign_repeated, augment, give_back};
 use crate::timed::{handle, run_parallel, run_recorded};
 use kern_syntax::{Block, Elif, StmtKind};
+use meaning_frames::Frame;
 use meaning_state::{Early, Reason, State};
 use meaning_steps::is_true;
 use std::alloc::Global;

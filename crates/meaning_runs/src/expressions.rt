@@ -3,14 +3,15 @@
 ghost use Rattle.kern_syntax.specs.TreeOf.{arguments_of, argument_of, expression_of};
 ghost use Rattle.kern_syntax.specs.Tree.{no_more};
 ghost use Rattle.meaning_steps.specs.Runnable.{IsRunnable, AreRunnable, first_argument};
-ghost use Rattle.meaning_runs.specs.Frames.{calls_in, scope_in};
+ghost use Rattle.meaning_frames.specs.Frames.{scope_in};
+ghost use Rattle.meaning_runs.specs.Frames.{calls_in};
 ghost use Rattle.meaning_state.specs.Does.{Does, DoesItems};
 ghost use Rattle.timeline_sem.specs.Expressions.{arguments, expression};
 
-use crate::frame::Frame;
 use crate::functions::perform_call;
 use kern_names::type_of;
 use kern_syntax::{Argument, Expr};
+use meaning_frames::Frame;
 use meaning_numbers::{changed, compared};
 use meaning_state::{Early, State};
 use meaning_steps::{is_true, keep, number_of, operate, perform_method};

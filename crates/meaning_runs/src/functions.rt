@@ -3,7 +3,8 @@
 ghost use Rattle.kern_calls.specs.Calls.{builtin_named};
 ghost use Rattle.kern_names.specs.ScopeOf.{program_of};
 ghost use Rattle.kern_syntax.specs.TreeOf.{arguments_of, block_of, function_of};
-ghost use Rattle.meaning_runs.specs.Frames.{calls_in, scope_in};
+ghost use Rattle.meaning_frames.specs.Frames.{scope_in};
+ghost use Rattle.meaning_runs.specs.Frames.{calls_in};
 ghost use Rattle.meaning_state.specs.Does.{Does};
 ghost use Rattle.meaning_steps.specs.Runnable.{CallIsTold};
 ghost use Rattle.meaning_steps.specs.RunnableStatements.{AreRunnableFunctions, IsRunnableBlock};
@@ -11,10 +12,10 @@ ghost use Rattle.timeline_sem.specs.Expressions.{perform_call};
 ghost use Rattle.timeline_sem.specs.Programs.{function_body, function_call};
 
 use crate::blocks::run_block;
-use crate::frame::Frame;
 use kern_calls::builtin_named;
 use kern_names::{Functions, Scope, names_of};
 use kern_syntax::{Argument, Function};
+use meaning_frames::Frame;
 use meaning_state::{Early, State};
 use meaning_steps::{enter_call, finished, initial_values, perform_builtin};
 use std::alloc::Global;

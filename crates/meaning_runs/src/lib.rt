@@ -4,7 +4,6 @@
 
 mod blocks;
 mod expressions;
-mod frame;
 mod functions;
 mod loops;
 mod simple;
@@ -12,5 +11,4 @@ mod timed;
 
 pub use blocks::run_block;
 pub use expressions::evaluate;
-pub use frame::Frame;
 pub use functions::run_function;

@@ -3,7 +3,8 @@
 ghost use Rattle.std.specs.Prelude.{⊤};
 ghost use Rattle.std.specs.Int.{int_gap};
 ghost use Rattle.kern_syntax.specs.TreeOf.{block_of, expression_of};
-ghost use Rattle.meaning_runs.specs.Frames.{calls_in, scope_in};
+ghost use Rattle.meaning_frames.specs.Frames.{scope_in};
+ghost use Rattle.meaning_runs.specs.Frames.{calls_in};
 ghost use Rattle.meaning_state.specs.Does.{Does};
 ghost use Rattle.meaning_steps.specs.Runnable.{IsRunnable};
 ghost use Rattle.meaning_steps.specs.RunnableStatements.{IsRunnableBlock};
@@ -14,8 +15,8 @@ ghost use Rattle.timeline_sem.specs.Statements.{block, for_turns, turn, while_lo
 
 use crate::blocks::run_block;
 use crate::expressions::evaluate;
-use crate::frame::Frame;
 use kern_syntax::{Block, Expr};
+use meaning_frames::Frame;
 use meaning_state::{Early, Held, Reason, State};
 use meaning_steps::{is_true, settled};
 use std::alloc::Global;

@@ -4,15 +4,16 @@ ghost use Rattle.std.specs.Prelude.{map, option_map};
 ghost use Rattle.kern_syntax.specs.TreeOf.{assign_to, augment_of, expression_of};
 ghost use Rattle.kern_syntax.specs.Tree.{assign_repeated, assign_list};
 ghost use Rattle.kern_syntax.specs.Tree as T;
-ghost use Rattle.meaning_runs.specs.Frames.{calls_in, scope_in};
+ghost use Rattle.meaning_frames.specs.Frames.{scope_in};
+ghost use Rattle.meaning_runs.specs.Frames.{calls_in};
 ghost use Rattle.meaning_state.specs.Does.{Does, DoesItems};
 ghost use Rattle.meaning_steps.specs.Runnable.{IsRunnable};
 ghost use Rattle.meaning_steps.specs.RunnableStatements.{EachRunnable, IfThereRunnable, IsRunnableStatement};
 ghost use Rattle.timeline_sem.specs.Statements.{statement, values};
 
 use crate::expressions::evaluate;
-use crate::frame::Frame;
 use kern_syntax::{Augment, Expr, Target};
+use meaning_frames::Frame;
 use meaning_state::{Early, Held, Reason, State};
 use meaning_steps::{hold_sum, repeated, set_sum};
 use std::alloc::Global;

@@ -1,14 +1,15 @@
 // Blocks on the timeline, and handlers.
 
 ghost use Rattle.kern_syntax.specs.TreeOf.{block_of, handlers_of};
-ghost use Rattle.meaning_runs.specs.Frames.{calls_in, scope_in};
+ghost use Rattle.meaning_frames.specs.Frames.{scope_in};
+ghost use Rattle.meaning_runs.specs.Frames.{calls_in};
 ghost use Rattle.meaning_state.specs.Does.{Does};
 ghost use Rattle.meaning_steps.specs.RunnableStatements.{AreRunnableHandlers, IsRunnableBlock};
 ghost use Rattle.timeline_sem.specs.Statements.{block, handler, parallel_block, recorded};
 
 use crate::blocks::{run_block, run_statement};
-use crate::frame::Frame;
 use kern_syntax::{Block, Handler};
+use meaning_frames::Frame;
 use meaning_state::{Early, Reason, State};
 use meaning_steps::{end_recording, handler_of};
 use rtio_types::{Exc, Name};

@@ -10,7 +10,7 @@ use Rattle.timeline_sem.specs.Programs.{initial_values}
 use Rattle.meaning_steps.specs.Entering.{first_value, later_args}
 
 -- the name at a place comes before the others from there on
-name_first : (names : Names) (place : ℕ) (known : Bytes × ValueType) → slice_get names place ≡ Some known → drop place names ≡ known ∷ drop (place + 1) names
+pub name_first : (names : Names) (place : ℕ) (known : Bytes × ValueType) → slice_get names place ≡ Some known → drop place names ≡ known ∷ drop (place + 1) names
 name_first names place known at =
     let within : place < length names = slice_get_within names place known at in
     rw (add-one place, drop-cons names place known within) (ap (λ y. y ∷ drop (suc place) names) (get_or_from_slice_get names place known known at))

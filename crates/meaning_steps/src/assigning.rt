@@ -11,8 +11,8 @@ use kern_syntax::{Augment, BinaryOperator};
 use meaning_state::{Early, Held, Reason, State};
 use std::alloc::{AllocError, Global};
 
-// The operator of an augmented assignment.
-fn operator_of(operator: Augment) -> BinaryOperator
+/// The operator of an augmented assignment.
+pub fn operator_of(operator: Augment) -> BinaryOperator
     ensures { result ≡ operator_of operator }
 {
     match operator {

@@ -16,8 +16,8 @@ use meaning_state::{Early, State, first_number, perform};
 use rtio_types::{Name, Request, Value};
 use std::alloc::{AllocError, Global};
 
-// The text among a call's arguments.
-fn text_of(arguments: &[Argument]) -> Option<Name>
+/// The text among a call's arguments.
+pub fn text_of(arguments: &[Argument]) -> Option<Name>
     ensures text { unwrap_or result [] ≡ text_in (arguments_of arguments.now) }
     ensures there { is_some result ≡ has_text (arguments_of arguments.now) }
 {
@@ -43,8 +43,8 @@ fn array_in<'b>(scope: &Scope<'_>, e: &'b Expr) -> Option<&'b Identifier>
     }
 }
 
-// The name of the array that is a call's argument, if one is.
-fn array_argument<'b>(scope: &Scope<'_>, arguments: &'b [Argument]) -> Option<&'b Identifier>
+/// The name of the array that is a call's argument, if one is.
+pub fn array_argument<'b>(scope: &Scope<'_>, arguments: &'b [Argument]) -> Option<&'b Identifier>
     ensures { option_map (λ x. x.now) result ≡ array_argument (scope_of scope.now) (arguments_of arguments.now) }
 {
     for argument in arguments.iter() {

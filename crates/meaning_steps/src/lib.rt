@@ -11,8 +11,8 @@ mod operating;
 mod recording;
 mod turns;
 
-pub use assigning::{hold_sum, keep, repeated, set_sum};
-pub use builtins::{perform_builtin, perform_method};
+pub use assigning::{hold_sum, keep, operator_of, repeated, set_sum};
+pub use builtins::{array_argument, perform_builtin, perform_method, text_of};
 pub use functions::{enter_call, finished, initial_values};
 pub use handling::handler_of;
 pub use operating::{is_true, number_of, operate};

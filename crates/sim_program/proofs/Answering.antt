@@ -1,5 +1,5 @@
 -- What is answered to the bytes of a command.
-use Rattle.std.proofs.Common.{◌≡◌, ℕ, List, ap}
+use Rattle.std.proofs.Common.{◌≡◌, ℕ, List, ap, ◌∙◌}
 use Rattle.std.specs.Prelude.{Ok, Err, Result, IfOk, Bool, length}
 use Rattle.kern_syntax.specs.Tree.{Bytes, ProgramTree}
 use Rattle.kern_syntax.specs.Print.{program_text}
@@ -18,6 +18,11 @@ use Rattle.sim_program.specs.Texts.{IsKernel, IsKernelText, IsTextRefused}
 use Rattle.sim_program.specs.Images.{IsAcceptedImage, IsImageRefused}
 use Rattle.sim_program.specs.Reports.{status_of}
 use Rattle.sim_program.specs.Answers.{CompilesText, PrintsText}
+use Rattle.sim_program.specs.Slack.{TellsSlack}
+use Rattle.slack_check.specs.Lines.{slack_line}
+use Rattle.slack_check.specs.Mains.{MainNeverUnderflows, verdict_of_main}
+use Rattle.slack_meaning.specs.declared.verdict.Verdict.{Verdict}
+use Rattle.slack_meaning.specs.declared.verdict.Verdict.TheVariants.{Yes}
 use Rattle.sim_program.specs.Readings.{IsAnswerTo, IsCodeRun, IsMainRun, IsNoKernelText, IsReadAs, IsRunAnswer, TellsOf}
 use Rattle.sim_program.proofs.Kernels.{text-not-refused}
 
@@ -97,6 +102,20 @@ printed text written program read kernel is = (
 pub compiled : (text written : Bytes) (program : ProgramTree) (code : Code) → IsReadAs text program → IsKernel program → DoesAs program code → written ≡ image_of code → CompilesText text written × ((told : Bytes) → ¬ IsTextRefused text told)
 compiled text written program code read kernel does is = (
   record { program = program; is_kernel = record { is_text = read.is_text; kernel = kernel }; code = code; does = does; image = is },
+  λ told refused. text-not-refused text told program read kernel refused,
+)
+
+-- the line of a verdict tells of the kernel
+pub told-verdict : (cost depth : ℕ) (text written : Bytes) (program : ProgramTree) (verdict : Verdict) → IsReadAs text program → IsKernel program → verdict ≡ verdict_of_main program cost depth
+    → ((outs : ℕ) → verdict ≡ Yes outs → MainNeverUnderflows program cost depth) → written ≡ slack_line verdict
+    → TellsSlack cost depth text written × ((told : Bytes) → ¬ IsTextRefused text told)
+told-verdict cost depth text written program verdict read kernel is promise line = (
+  record {
+    program = program;
+    is_kernel = record { is_text = read.is_text; kernel = kernel };
+    line = line ∙ ap slack_line is;
+    yes = λ outs said. promise outs (is ∙ said);
+  },
   λ told refused. text-not-refused text told program read kernel refused,
 )
 

@@ -125,13 +125,8 @@ builts-of text program (Err e) read is = tt
 
 -- one with too many nodes is refused
 pub too-large : (text told : Bytes) (program seen : ProgramTree) (count : ℕ) → IsReadAs text program → IsTyped program → seen ≡ program → (most_nodes < program_nodes seen) × (count ≡ shown (program_nodes seen)) → told ≡ code_line count
-    → IsTextRefused text told × (((other : ProgramTree) × IsKernelText text other) → ⊥)
+    → IsTextRefused text told × IsNoKernelText text
 too-large text told program seen count read typed is nodes line =
     let big : most_nodes < program_nodes program = subst (λ (p : ProgramTree). most_nodes < program_nodes p) is nodes.0 in
     let shows : told ≡ code_line (shown (program_nodes program)) = line ∙ ap code_line (nodes.1 ∙ ap (λ (p : ProgramTree). shown (program_nodes p)) is) in
-    let refused = refused-program text told program read (large typed big shows) in
-    (refused.0, λ taken. refused.1 taken.0 taken.1)
-
--- another is an accepted kernel
-pub small-enough : (program seen : ProgramTree) → IsTyped program → seen ≡ program → program_nodes seen ≤ most_nodes → IsKernel program
-small-enough program seen typed is few = record { typed = typed; small = subst (λ (p : ProgramTree). program_nodes p ≤ most_nodes) is few }
+    refused-program text told program read (large typed big shows)

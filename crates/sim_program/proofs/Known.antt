@@ -7,7 +7,7 @@ use Rattle.lab_io.specs.declared.source.ReadEnd.{ReadEnd}
 use Rattle.lab_io.specs.declared.source.ReadEnd.TheVariants as End
 use Rattle.lab_io.specs.Reading.{IsCountAt}
 use Rattle.sim_words.specs.declared.asked.Asked.{Asked}
-use Rattle.sim_words.specs.declared.asked.Asked.TheVariants.{Sim, Generated, Check, Compile, Exec, Gen, Dump, Vcd, Sat}
+use Rattle.sim_words.specs.declared.asked.Asked.TheVariants.{Sim, Generated, Check, Compile, Exec, Gen, Dump, Vcd, Sat, Slack}
 use Rattle.sim_program.specs.declared.answer.Answer.{Answer}
 use Rattle.sim_program.specs.declared.answer.Answer.TheVariants.{Due, Refused, Bad}
 use Rattle.sim_program.specs.declared.finish.Finish.{Finish}
@@ -183,6 +183,7 @@ refused-or-bad (Gen number) text one other refused bad = bad
 refused-or-bad (Dump options) text one other refused bad = bad
 refused-or-bad Vcd text one other refused bad = refused
 refused-or-bad (Sat options word) text one other refused bad = bad
+refused-or-bad (Slack cost depth) text one other refused bad = bad
 
 -- a fact of the bytes that were got, from one of the bytes that the source is told to have held
 carried : (P : Asked → List ℕ → Type 0) (asked : Option Asked) (command other : Asked) (old new : Option (List ℕ)) (bytes text : List ℕ) → asked ≡ Some command → asked ≡ Some other → Gets (origin_of command) old new bytes → IsGiven (origin_of other) old text → P other text → P command bytes
@@ -228,6 +229,7 @@ due-ends (Gen number) text written status due = due.1
 due-ends (Dump options) text written status due = ends-run _ status due.status_is
 due-ends Vcd text written status due = due.1
 due-ends (Sat options word) text written status due = ends-run _ status due.status_is
+due-ends (Slack cost depth) text written status due = due.1
 
 -- an answer that isn't 4 is the status
 pub not-four : (result status : ℕ) → (result ≡ status) ⊎ (result ≡ 4) → (result ≡ 0) ⊎ ((result ≡ 6) ⊎ (result ≡ 7)) → result ≡ status

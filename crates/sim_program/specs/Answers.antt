@@ -9,7 +9,7 @@ use Rattle.core_image.specs.Spelling.{image_of}
 use Rattle.code_law.specs.DoesAs.{DoesAs}
 use Rattle.kernel_gen.specs.Generated.{kernel_text}
 use Rattle.sim_words.specs.declared.asked.Asked.{Asked}
-use Rattle.sim_words.specs.declared.asked.Asked.TheVariants.{Sim, Generated, Check, Compile, Exec, Gen, Dump, Vcd, Sat}
+use Rattle.sim_words.specs.declared.asked.Asked.TheVariants.{Sim, Generated, Check, Compile, Exec, Gen, Dump, Vcd, Sat, Slack}
 use Rattle.sim_program.specs.declared.report.Form.TheVariants.{Report, Summary, Bytes}
 use Rattle.sim_program.specs.Texts.{IsKernelText, IsTextRefused}
 use Rattle.core_analyzer.specs.Dumps.{Dumped}
@@ -18,6 +18,7 @@ use Rattle.sim_program.specs.Waves.{DrawsWave, IsDumpRefused, IsWaveDump}
 use Rattle.sim_program.specs.Runs.{RunsImage, RunsKernel}
 use Rattle.sim_program.specs.Reports.{Tells}
 use Rattle.sim_program.specs.Links.{TellsLink}
+use Rattle.sim_program.specs.Slack.{TellsSlack}
 
 -- ---- where a command's bytes come from
 
@@ -49,6 +50,7 @@ origin_of (Gen number) = Has (kernel_text number)
 origin_of (Dump options) = Reads max_text
 origin_of Vcd = Reads max_dump
 origin_of (Sat options word) = Reads max_text
+origin_of (Slack cost depth) = Reads max_text
 
 abbrev pub HasBytes : Origin → Type 0
 HasBytes (Reads most) = ⊥
@@ -104,6 +106,7 @@ IsDue (Gen number) text written status = (written ≡ text) × (status ≡ 0)
 IsDue (Dump options) text written status = Tells (RunsKernel options text) Bytes options.budget written status
 IsDue Vcd text written status = DrawsWave text written × (status ≡ 0)
 IsDue (Sat options word) text written status = TellsLink options word text written status
+IsDue (Slack cost depth) text written status = TellsSlack cost depth text written × (status ≡ 0)
 
 -- the bytes that a command takes: a text of an accepted kernel, for `exec` an image of accepted code, or for `vcd` a dump whose
 -- stamps are at least 8
@@ -117,6 +120,7 @@ IsTaken (Gen number) text = Unit {0}
 IsTaken (Dump options) text = (program : ProgramTree) × IsKernelText text program
 IsTaken Vcd text = (dump : Dumped) × IsWaveDump text dump
 IsTaken (Sat options word) text = (program : ProgramTree) × IsKernelText text program
+IsTaken (Slack cost depth) text = (program : ProgramTree) × IsKernelText text program
 
 -- why a command refuses a text, and the line that says so; `exec`, `gen` and `vcd` take no text
 abbrev pub IsRefused : Asked → (text told : List ℕ) → Type 0
@@ -129,6 +133,7 @@ IsRefused (Gen number) text told = ⊥
 IsRefused (Dump options) text told = IsTextRefused text told
 IsRefused Vcd text told = ⊥
 IsRefused (Sat options word) text told = IsTextRefused text told
+IsRefused (Slack cost depth) text told = IsTextRefused text told
 
 -- why `exec` or `vcd` refuses its bytes, and the line that says so; no other command takes an image or a dump
 abbrev pub IsBad : Asked → (bytes told : List ℕ) → Type 0
@@ -151,6 +156,7 @@ IsEnd (Gen number) status = status ≡ 0
 IsEnd (Dump options) status = IsRunEnd status
 IsEnd Vcd status = status ≡ 0
 IsEnd (Sat options word) status = IsRunEnd status
+IsEnd (Slack cost depth) status = status ≡ 0
 
 -- ---- what was read and written
 
@@ -208,7 +214,7 @@ pub data Refusal : Type 0 where
 abbrev pub refusal_line : Refusal → List ℕ
 refusal_line (of_text told) = told
 refusal_line (of_bytes told) = told
-refusal_line usage = codes "usage: artiq_sim sim or check or compile or exec or gen or dump or vcd or sat\n"
+refusal_line usage = codes "usage: artiq_sim sim or check or compile or exec or gen or slack or dump or vcd or sat\n"
 refusal_line read_fault = codes "read fault\n"
 refusal_line memory = codes "memory\n"
 refusal_line too_long = codes "too long\n"

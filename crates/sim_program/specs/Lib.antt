@@ -4,5 +4,6 @@ pub mod Waves
 pub mod Runs
 pub mod Reports
 pub mod Links
+pub mod Slack
 pub mod Answers
 pub mod Readings

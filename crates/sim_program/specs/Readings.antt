@@ -25,6 +25,8 @@ use Rattle.sim_program.specs.declared.image.Image.{Image}
 use Rattle.sim_program.specs.declared.image.Image.TheVariants as image
 use Rattle.sim_program.specs.declared.kernel.Kernel.{Kernel}
 use Rattle.sim_program.specs.declared.kernel.Kernel.TheVariants as kernel
+use Rattle.sim_program.specs.declared.kernel.Accepted.{Accepted}
+use Rattle.sim_program.specs.declared.kernel.Accepted.TheVariants as accepted
 use Rattle.sim_program.specs.declared.kernel.Built.{Built}
 use Rattle.sim_program.specs.declared.kernel.Built.TheVariants as built
 use Rattle.sim_program.specs.Texts.{IsKernel, IsKernelText, IsProgramRefused, IsTextOf, IsTextRefused}
@@ -62,6 +64,11 @@ IsKernelOf text (kernel.Refused told) = IsTextRefused text told.items × IsNoKer
 abbrev pub IsTypedAs : ProgramTree → Kernel → Type 0
 IsTypedAs program (kernel.Typed checked) = (tree_of checked ≡ program) × IsTyped program
 IsTypedAs program (kernel.Refused told) = IsProgramRefused program told.items
+
+-- a text was read as an accepted kernel, or it is refused
+abbrev pub IsAcceptedOf : Bytes → Accepted → Type 0
+IsAcceptedOf text (accepted.Kernel checked) = IsReadAs text (tree_of checked) × IsKernel (tree_of checked)
+IsAcceptedOf text (accepted.Refused told) = IsTextRefused text told.items × IsNoKernelText text
 
 -- a text was read as a kernel and compiled, or it is refused
 abbrev pub IsBuiltOf : Bytes → Built → Type 0

@@ -9,9 +9,8 @@ ghost use Rattle.sim_program.specs.Texts.{IsKernel};
 
 use crate::finish::{Finish, finish_of};
 use crate::image::{Image, image_of};
-use crate::kernel::{Built, Kernel, built_of, kernel_of, over_limit};
+use crate::kernel::{Accepted, Built, accepted_of, built_of};
 use crate::link::lines_of;
-use crate::refusal::code_refusal;
 use crate::report::{Form, text_of};
 use crate::run::{Run, run_image, run_main};
 use crate::wave::{Wave, wave_of};
@@ -21,6 +20,7 @@ use kern_syntax::print;
 use sat_rounds::LinkWord;
 use sim_report::pends;
 use sim_words::{Asked, Options};
+use slack_check::{slack, slack_line};
 use std::alloc::{AllocError, Global};
 
 /// What the program says of the bytes of a command.
@@ -49,6 +49,7 @@ pub fn answer_to(alloc: Global, asked: Asked, text: Vec<u8>) -> Result<Answer, A
         Asked::Dump { options } => answer_by_run(alloc, &text, options, Form::Bytes),
         Asked::Vcd => answer_by_dump(alloc, &text),
         Asked::Sat { options, word } => answer_by_link(alloc, &text, options, &word),
+        Asked::Slack { cost, depth } => answer_by_slack(alloc, &text, cost, depth),
         Asked::Gen { .. } => Ok(Answer::Due {
             bytes: text,
             finish: Finish::Whole,
@@ -139,15 +140,31 @@ fn answer_by_text(alloc: Global, text: &[u8]) -> Result<Answer, AllocError>
     requires { length text.now < 2 ^ 31 }
     ensures { IfOk result (λ answer. IsAnswerTo Asked.Check text.now answer) }
 {
-    match kernel_of(alloc, text)? {
-        Kernel::Refused(line) => Ok(Answer::Refused(line)),
-        Kernel::Typed(checked) => match over_limit(checked.program()) {
-            Some(count) => Ok(Answer::Refused(code_refusal(alloc, count)?)),
-            None => Ok(Answer::Due {
-                bytes: print(alloc, checked.program())?,
+    match accepted_of(alloc, text)? {
+        Accepted::Refused(line) => Ok(Answer::Refused(line)),
+        Accepted::Kernel(checked) => Ok(Answer::Due {
+            bytes: print(alloc, checked.program())?,
+            finish: Finish::Whole,
+        }),
+    }
+}
+
+// Tells whether an output of a kernel can come too late.
+fn answer_by_slack(alloc: Global, text: &[u8], cost: u64, depth: u32) -> Result<Answer, AllocError>
+    requires cost { cost ≤ 1000000 }
+    requires depth { (1 ≤ depth) × (depth ≤ 1024) }
+    requires short { length text.now < 2 ^ 31 }
+    ensures { IfOk result (λ answer. IsAnswerTo (Asked.Slack cost depth) text.now answer) }
+{
+    match accepted_of(alloc, text)? {
+        Accepted::Refused(line) => Ok(Answer::Refused(line)),
+        Accepted::Kernel(checked) => {
+            let verdict = slack(alloc, &checked, cost, depth)?;
+            Ok(Answer::Due {
+                bytes: slack_line(alloc, verdict)?,
                 finish: Finish::Whole,
-            }),
-        },
+            })
+        }
     }
 }
 

@@ -6,7 +6,7 @@ ghost use Rattle.kern_syntax.specs.Nodes.{program_nodes, shown};
 ghost use Rattle.kern_syntax.specs.Spellable.{IsSpellableProgram};
 ghost use Rattle.kern_syntax.specs.TreeOf.{tree_of};
 ghost use Rattle.kern_types.specs.Programs.{IsTyped};
-ghost use Rattle.sim_program.specs.Readings.{IsBuiltAs, IsBuiltOf, IsKernelOf, IsTypedAs};
+ghost use Rattle.sim_program.specs.Readings.{IsAcceptedOf, IsBuiltAs, IsBuiltOf, IsKernelOf, IsTypedAs};
 ghost use Rattle.sim_program.specs.Texts.{most_nodes};
 
 use crate::refusal::{code_refusal, lex_refusal, syntax_refusal, type_refusal};
@@ -23,6 +23,15 @@ pub enum Kernel {
     /// A typed program, which may have too many nodes.
     Typed(Checked),
     /// The line that says why it is no kernel's text.
+    Refused(Vec<u8>),
+}
+
+/// What a text was accepted as.
+#[derive(Drop)]
+pub enum Accepted {
+    /// An accepted kernel: a typed program with no more nodes than it may have.
+    Kernel(Checked),
+    /// The line that says why it is no accepted kernel's text.
     Refused(Vec<u8>),
 }
 
@@ -82,6 +91,21 @@ pub fn over_limit(program: &Program) -> Option<u64>
         Some(count)
     } else {
         None
+    }
+}
+
+/// Reads a text as an accepted kernel, or says why it is none: for its tokens, its tree, its types or its number of nodes, in
+/// this order.
+pub fn accepted_of(alloc: Global, text: &[u8]) -> Result<Accepted, AllocError>
+    requires { length text.now < 2 ^ 31 }
+    ensures { IfOk result (λ accepted. IsAcceptedOf text.now accepted) }
+{
+    match kernel_of(alloc, text)? {
+        Kernel::Refused(line) => Ok(Accepted::Refused(line)),
+        Kernel::Typed(checked) => match over_limit(checked.program()) {
+            Some(count) => Ok(Accepted::Refused(code_refusal(alloc, count)?)),
+            None => Ok(Accepted::Kernel(checked)),
+        },
     }
 }
 

@@ -15,7 +15,7 @@ use sim_words::{Asked, WordsEnd, read_words};
 use std::alloc::Global;
 
 const USAGE: &[u8] =
-    b"usage: artiq_sim sim or check or compile or exec or gen or dump or vcd or sat\n";
+    b"usage: artiq_sim sim or check or compile or exec or gen or slack or dump or vcd or sat\n";
 
 // The most bytes of a kernel's text.
 const MAX_TEXT: u64 = 1_048_576;
@@ -137,6 +137,7 @@ fn bytes_of<S: Source>(alloc: Global, asked: &Asked, source: &mut S) -> Result<V
         Asked::Sim { .. }
         | Asked::Dump { .. }
         | Asked::Sat { .. }
+        | Asked::Slack { .. }
         | Asked::Check
         | Asked::Compile => { read_all(alloc, source, MAX_TEXT) }
         Asked::Exec { .. } => read_all(alloc, source, MAX_IMAGE),

@@ -15,9 +15,9 @@ use Rattle.option_values.specs.Numbers.{number_in, number_of}
 use Rattle.sat_rounds.specs.declared.letters.Letter.{Letter}
 use Rattle.sim_words.specs.Given.{Given, given_of, value_of}
 use Rattle.sim_words.specs.declared.asked.Asked.{Asked}
-use Rattle.sim_words.specs.declared.asked.Asked.TheVariants.{Sim, Generated, Check, Compile, Exec, Gen, Dump, Vcd, Sat}
+use Rattle.sim_words.specs.declared.asked.Asked.TheVariants.{Sim, Generated, Check, Compile, Exec, Gen, Dump, Vcd, Sat, Slack}
 use Rattle.sim_words.specs.declared.asked.Options.{Options}
-use Rattle.sim_words.specs.Asked.{Command, IsAccepted, any_number, asked_of, budget_of, command_named, config_of, cost_of, depth_of, dma_of, dump_names, dump_of, edges_given, exec_names, exec_of, gen_names, gen_of, holds_given, horizon_of, if_read, lanes_of, options_of, read_or, recordings_given, schedule_given, sim_names, sim_of, link_given, sat_names, sat_of}
+use Rattle.sim_words.specs.Asked.{Command, IsAccepted, any_number, asked_of, budget_of, command_named, config_of, cost_of, depth_of, dma_of, dump_names, dump_of, edges_given, exec_names, exec_of, gen_names, gen_of, holds_given, horizon_of, if_read, lanes_of, options_of, read_or, recordings_given, schedule_given, sim_names, sim_of, link_given, sat_names, sat_of, slack_names, slack_of}
 
 -- a number lies in its range
 number-within : (least most : ℕ) (text : List ℕ) → IfSome (number_in least most text) (λ n. (least ≤ n) × (n ≤ most))
@@ -37,6 +37,24 @@ budget-within given = go (value_of (codes "budget") given)
     go : (o : Option (List ℕ)) → IfSome (read_or 1000000 (number_in 1 1000000) o) (λ n. (1 ≤ n) × (n ≤ 1000000))
     go None = (lit≤ tt, lit≤ tt)
     go (Some text) = number-within 1 1000000 text
+
+cost-within : (given : List Given) → IfSome (cost_of given) (λ n. n ≤ 1000000)
+cost-within given = go (value_of (codes "cost") given)
+  where
+    upper : (o : Option ℕ) → IfSome o (λ n. (0 ≤ n) × (n ≤ 1000000)) → IfSome o (λ n. n ≤ 1000000)
+    upper None h = tt
+    upper (Some n) h = h.1
+
+    go : (o : Option (List ℕ)) → IfSome (read_or 0 (number_in 0 1000000) o) (λ n. n ≤ 1000000)
+    go None = lit≤ tt
+    go (Some text) = upper (number_in 0 1000000 text) (number-within 0 1000000 text)
+
+depth-within : (given : List Given) → IfSome (depth_of given) (λ n. (1 ≤ n) × (n ≤ 1024))
+depth-within given = go (value_of (codes "depth") given)
+  where
+    go : (o : Option (List ℕ)) → IfSome (read_or 128 (number_in 1 1024) o) (λ n. (1 ≤ n) × (n ≤ 1024))
+    go None = (lit≤ tt, lit≤ tt)
+    go (Some text) = number-within 1 1024 text
 
 abbrev IsOk : Config → Type 0
 IsOk config = IsTrue (is_config_ok config)
@@ -131,6 +149,15 @@ sat-accepted given = go (options_of given) (link_given given) (options-accepted 
     go (Some options) None held = tt
     go (Some options) (Some word) held = held
 
+pub slack-accepted : (given : List Given) → IfSome (slack_of given) IsAccepted
+slack-accepted given = go (cost_of given) (depth_of given) (cost-within given) (depth-within given)
+  where
+    go : (cost depth : Option ℕ) → IfSome cost (λ n. n ≤ 1000000) → IfSome depth (λ n. (1 ≤ n) × (n ≤ 1024))
+        → IfSome (if_read cost (λ cost. option_map (λ depth. Slack cost depth) depth)) IsAccepted
+    go None depth most within = tt
+    go (Some cost) None most within = tt
+    go (Some cost) (Some depth) most within = (most, within.0, within.1)
+
 pub gen-accepted : (given : List Given) → IfSome (gen_of given) IsAccepted
 gen-accepted given = go (if_read (value_of (codes "number") given) any_number)
   where
@@ -146,8 +173,11 @@ choose true a b first second = first
 choose false a b first second = second
 
 -- the commands from one on
+abbrev from-slack : List ℕ → Option Command
+from-slack word = cond (bytes_eq word (codes "slack")) (Some (record { names = slack_names; asks = slack_of })) None
+
 abbrev from-sat : List ℕ → Option Command
-from-sat word = cond (bytes_eq word (codes "sat")) (Some (record { names = sat_names; asks = sat_of })) None
+from-sat word = cond (bytes_eq word (codes "sat")) (Some (record { names = sat_names; asks = sat_of })) (from-slack word)
 
 abbrev from-vcd : List ℕ → Option Command
 from-vcd word = cond (bytes_eq word (codes "vcd")) (Some (record { names = []; asks = λ given. Some Vcd })) (from-sat word)
@@ -176,7 +206,8 @@ named-accepted word =
     (choose (bytes_eq word (codes "check")) (Some (record { names = []; asks = λ given. Some Check })) (from-compile word) (λ given. tt)
     (choose (bytes_eq word (codes "compile")) (Some (record { names = []; asks = λ given. Some Compile })) (from-vcd word) (λ given. tt)
     (choose (bytes_eq word (codes "vcd")) (Some (record { names = []; asks = λ given. Some Vcd })) (from-sat word) (λ given. tt)
-    (choose (bytes_eq word (codes "sat")) (Some (record { names = sat_names; asks = sat_of })) None sat-accepted tt)))))))
+    (choose (bytes_eq word (codes "sat")) (Some (record { names = sat_names; asks = sat_of })) (from-slack word) sat-accepted
+    (choose (bytes_eq word (codes "slack")) (Some (record { names = slack_names; asks = slack_of })) None slack-accepted tt))))))))
 
 pub given-accepted : (names words : List (List ℕ)) (asks : List Given → Option Asked) → ((given : List Given) → IfSome (asks given) IsAccepted)
     → IfSome (if_read (given_of names words) asks) IsAccepted

@@ -7,7 +7,7 @@ use Rattle.run_schedule.specs.Schedules.{Lockstep, Letters}
 use Rattle.run_schedule.specs.declared.schedule.Step.TheVariants.{Cpu, Tick}
 use Rattle.sat_rounds.specs.declared.letters.Letter.TheVariants as letter
 use Rattle.option_values.specs.Lists.{no_holds}
-use Rattle.sim_words.specs.declared.asked.Asked.TheVariants.{Sim, Generated, Check, Compile, Exec, Gen, Dump, Vcd, Sat}
+use Rattle.sim_words.specs.declared.asked.Asked.TheVariants.{Sim, Generated, Check, Compile, Exec, Gen, Dump, Vcd, Sat, Slack}
 use Rattle.sim_words.specs.declared.asked.Options.{Options}
 use Rattle.sim_words.specs.Asked.{asked_of}
 
@@ -124,3 +124,15 @@ horizon-of-sent = refl
 
 link-of-sim : asked_of (codes "sim" ∷ codes "--link=sdtga" ∷ []) ≡ None
 link-of-sim = refl
+
+checked-for-slack : asked_of (codes "slack" ∷ []) ≡ Some (Slack 0 128)
+checked-for-slack = refl
+
+slack-of-one : asked_of (codes "slack" ∷ codes "--depth" ∷ codes "1" ∷ codes "--cost=80" ∷ []) ≡ Some (Slack 80 1)
+slack-of-one = refl
+
+slack-of-lanes : asked_of (codes "slack" ∷ codes "--lanes=2" ∷ []) ≡ None
+slack-of-lanes = refl
+
+slack-of-no-depth : asked_of (codes "slack" ∷ codes "--depth=0" ∷ []) ≡ None
+slack-of-no-depth = refl

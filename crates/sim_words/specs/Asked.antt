@@ -14,7 +14,7 @@ use Rattle.option_values.specs.Schedules.{schedule_of}
 use Rattle.option_values.specs.Lists.{edges_of, holds_of, no_holds, recordings_of}
 use Rattle.sim_words.specs.Given.{Given, given_of, value_of}
 use Rattle.sim_words.specs.declared.asked.Asked.{Asked}
-use Rattle.sim_words.specs.declared.asked.Asked.TheVariants.{Sim, Generated, Check, Compile, Exec, Gen, Dump, Vcd, Sat}
+use Rattle.sim_words.specs.declared.asked.Asked.TheVariants.{Sim, Generated, Check, Compile, Exec, Gen, Dump, Vcd, Sat, Slack}
 use Rattle.sim_words.specs.declared.asked.Options.{Options}
 
 -- ---- one option
@@ -116,6 +116,10 @@ abbrev pub sat_names : List (List ℕ)
 sat_names =
     codes "cost" ∷ codes "lanes" ∷ codes "depth" ∷ codes "budget" ∷ codes "schedule" ∷ codes "edges" ∷ codes "link" ∷ []
 
+-- the names of the options of a check for outputs that may come too late
+abbrev pub slack_names : List (List ℕ)
+slack_names = codes "cost" ∷ codes "depth" ∷ []
+
 abbrev pub gen_names : List (List ℕ)
 gen_names = codes "number" ∷ []
 
@@ -140,6 +144,10 @@ dump_of given = option_map (λ options. Dump options) (options_of given)
 abbrev pub sat_of : List Given → Option Asked
 sat_of given = if_read (options_of given) (λ options. option_map (λ word. Sat options word) (link_given given))
 
+-- a kernel text is checked for outputs that may come too late
+abbrev pub slack_of : List Given → Option Asked
+slack_of given = if_read (cost_of given) (λ cost. option_map (λ depth. Slack cost depth) (depth_of given))
+
 -- the generated kernel of a number, which has to be given
 abbrev pub gen_of : List Given → Option Asked
 gen_of given = option_map (λ number. Gen number) (option_and_then any_number (value_of (codes "number") given))
@@ -159,6 +167,7 @@ command_named word =
     else if bytes_eq word (codes "compile") then Some (record { names = []; asks = λ given. Some Compile })
     else if bytes_eq word (codes "vcd") then Some (record { names = []; asks = λ given. Some Vcd })
     else if bytes_eq word (codes "sat") then Some (record { names = sat_names; asks = sat_of })
+    else if bytes_eq word (codes "slack") then Some (record { names = slack_names; asks = slack_of })
     else None
 
 -- what the words ask: the first is the command, the others are its options
@@ -180,9 +189,12 @@ options_in Compile = None
 options_in (Gen number) = None
 options_in Vcd = None
 options_in (Sat options word) = Some options
+options_in (Slack cost depth) = None
 
--- a core can be made with the settings, and the budget is of 1 to 1,000,000 units
+-- a core can be made with the settings, and the budget is of 1 to 1,000,000 units; a cost and a depth without other settings are
+-- those that a core may have
 abbrev pub IsAccepted : Asked → Type 0
+IsAccepted (Slack cost depth) = (cost ≤ 1000000) × (1 ≤ depth) × (depth ≤ 1024)
 IsAccepted asked =
     IfSome (options_in asked) (λ (options : Options).
     IsTrue (is_config_ok options.config) × (1 ≤ options.budget) × (options.budget ≤ 1000000))

@@ -34,6 +34,9 @@ pub enum Asked {
     Dump { options: Options },
     /// `vcd`: such bytes are written as a waveform text.
     Vcd,
+    /// `slack`: a kernel text is checked for outputs that may come too late, at this cost of a request (mu) and for lanes that
+    /// take so many events at least.
+    Slack { cost: u64, depth: u32 },
     /// `sat`: a kernel text is run, and the events that its core put out are sent over a link, in rounds of the word's
     /// letters.
     Sat { options: Options, word: LinkWord },

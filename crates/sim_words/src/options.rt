@@ -5,7 +5,7 @@ ghost use Rattle.option_values.specs.Readings.{Reads};
 ghost use Rattle.option_values.specs.Numbers.{number_in};
 ghost use Rattle.sim_words.specs.Given.{value_of};
 ghost use Rattle.sim_words.specs.Matches.{HasOptions, given_in};
-ghost use Rattle.sim_words.specs.Asked.{budget_of, config_of, dma_of, edges_given, holds_given, horizon_of, link_given, most_horizon, options_of, read_or, recordings_given, schedule_given};
+ghost use Rattle.sim_words.specs.Asked.{budget_of, config_of, cost_of, depth_of, dma_of, edges_given, holds_given, horizon_of, link_given, most_horizon, options_of, read_or, recordings_given, schedule_given};
 
 use crate::asked::Options;
 use crate::given::value_of;
@@ -53,6 +53,23 @@ pub fn read_options(alloc: Global, given: &ArgMatches<'_>) -> Result<Options, Va
     })
 }
 
+/// The limit that each request raises (mu): 0 where none is given, 1,000,000 at most.
+pub fn read_cost(given: &ArgMatches<'_>) -> Option<u64>
+    requires { HasOptions given.now }
+    ensures { result ≡ cost_of (given_in given.now) }
+{
+    read_or(value_of(given, "cost"), 0, 0, MOST_COST)
+}
+
+/// How many events a lane takes: 128 where nothing is given, 1 to 1,024.
+pub fn read_depth(given: &ArgMatches<'_>) -> Option<u32>
+    requires { HasOptions given.now }
+    ensures { result ≡ depth_of (given_in given.now) }
+{
+    let depth = read_or(value_of(given, "depth"), DEFAULT_DEPTH, 1, MOST_DEPTH)?;
+    Some(depth as u32)
+}
+
 /// Whether the recordings that are kept are asked for.
 pub fn read_dma(given: &ArgMatches<'_>) -> Option<bool>
     requires { HasOptions given.now }
@@ -93,17 +110,15 @@ fn read_config(alloc: Global, given: &ArgMatches<'_>) -> Result<Config, ValueEnd
     let lanes = read_or(value_of(given, "lanes"), DEFAULT_LANES, 1, MOST_LANES).ok_or(
         ValueEnd::Refused,
     )?;
-    let depth = read_or(value_of(given, "depth"), DEFAULT_DEPTH, 1, MOST_DEPTH).ok_or(
-        ValueEnd::Refused,
-    )?;
-    let cost = read_or(value_of(given, "cost"), 0, 0, MOST_COST).ok_or(ValueEnd::Refused)?;
+    let depth = read_depth(given).ok_or(ValueEnd::Refused)?;
+    let cost = read_cost(given).ok_or(ValueEnd::Refused)?;
     let horizon = read_horizon(given).ok_or(ValueEnd::Refused)?;
     let edges = read_edges_given(alloc, given)?;
     let holds = read_holds_given(given).ok_or(ValueEnd::Refused)?;
     let kept = read_recordings_given(alloc, given)?;
     let config = Config {
         lanes: lanes as u32,
-        depth: depth as u32,
+        depth,
         cost,
         horizon,
         edges,

@@ -4,11 +4,11 @@ ghost use Rattle.std.specs.Prelude.{◌≡◌, ◌≤◌, IfOk, None, Some, List
 ghost use Rattle.option_values.specs.Readings.{Reads};
 ghost use Rattle.sim_words.specs.Given.{given_of};
 ghost use Rattle.sim_words.specs.Matches.{HasOptions, given_in};
-ghost use Rattle.sim_words.specs.Asked.{IsAccepted, asked_of, dump_of, dump_names, exec_of, exec_names, gen_of, gen_names, if_read, sat_of, sat_names, sim_of, sim_names};
+ghost use Rattle.sim_words.specs.Asked.{IsAccepted, asked_of, dump_of, dump_names, exec_of, exec_names, gen_of, gen_names, if_read, sat_of, sat_names, sim_of, sim_names, slack_of, slack_names};
 
 use crate::asked::Asked;
 use crate::given::{read_given, value_of};
-use crate::options::{read_dma, read_link, read_options};
+use crate::options::{read_cost, read_depth, read_dma, read_link, read_options};
 use clap::ArgMatches;
 use option_values::{MOST_NUMBER, ValueEnd, read_number};
 use std::alloc::Global;
@@ -30,6 +30,8 @@ const SIM_NAMES: [&str; 11] = [
 const SAT_NAMES: [&str; 7] = [
     "cost", "lanes", "depth", "budget", "schedule", "edges", "link",
 ];
+
+const SLACK_NAMES: [&str; 2] = ["cost", "depth"];
 
 const GEN_NAMES: [&str; 1] = ["number"];
 
@@ -55,6 +57,7 @@ pub fn read_words(alloc: Global, words: &[String]) -> Result<Asked, ValueEnd>
         "compile" => read_bare(alloc, words, Asked::Compile),
         "vcd" => read_bare(alloc, words, Asked::Vcd),
         "sat" => read_sat(alloc, words),
+        "slack" => read_slack(alloc, words),
         _ => Err(ValueEnd::Refused),
     }
 }
@@ -95,6 +98,16 @@ fn read_sat(alloc: Global, words: &[String]) -> Result<Asked, ValueEnd>
 {
     match read_given(alloc, &SAT_NAMES, words) {
         Ok(given) => ask_sat(alloc, &given),
+        Err(end) => Err(end),
+    }
+}
+
+// The words behind `slack`.
+fn read_slack(alloc: Global, words: &[String]) -> Result<Asked, ValueEnd>
+    ensures { Reads (if_read (given_of slack_names (map string_bytes words.now)) slack_of) result }
+{
+    match read_given(alloc, &SLACK_NAMES, words) {
+        Ok(given) => ask_slack(&given).ok_or(ValueEnd::Refused),
         Err(end) => Err(end),
     }
 }
@@ -167,6 +180,16 @@ fn ask_sat(alloc: Global, given: &ArgMatches<'_>) -> Result<Asked, ValueEnd>
     let options = read_options(alloc, given)?;
     let word = read_link(given).ok_or(ValueEnd::Refused)?;
     Ok(Asked::Sat { options, word })
+}
+
+// A kernel text is checked for outputs that may come too late.
+fn ask_slack(given: &ArgMatches<'_>) -> Option<Asked>
+    requires { HasOptions given.now }
+    ensures { result ≡ slack_of (given_in given.now) }
+{
+    let cost = read_cost(given)?;
+    let depth = read_depth(given)?;
+    Some(Asked::Slack { cost, depth })
 }
 
 // The generated kernel of the number that is given.

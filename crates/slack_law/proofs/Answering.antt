@@ -29,12 +29,8 @@ use Rattle.slack_meaning.specs.Actions.{SpanRecording}
 use Rattle.slack_meaning.specs.Actions as S
 use Rattle.slack_meaning.specs.Answers.{answered, counted, lead_if, read_lead}
 use Rattle.slack_law.proofs.AnswerTimes.{asked_then, last-after, limit-after, open-after, answered-at-once}
-use Rattle.slack_law.proofs.Standing.{IsWithin, AreKept, Bounds, bounds_of, IsBounded, hands}
+use Rattle.slack_law.proofs.Standing.{Any, IsWithin, AreKept, Bounds, bounds_of, IsBounded, hands}
 use Rattle.slack_law.proofs.Asking.{IsAnswered, IsAnsweredBy, Answers}
-
--- nothing is said of an answer
-abbrev pub Any : {A B : Type 0} → A → B → Type 0
-Any x y = Unit {0}
 
 -- how many outputs were asked with one request more
 pub count-after : (config : Config) (history : List Entry) (chair : ℕ) (q : Request) (r : Reply) (at : ℕ) → next_number (judged_history config (asked_then history chair q r at)) ≡ next_number (judged_history config history) + count_by is_submit (filter_map (λ (entry : Entry). lane_step entry.act) (record { chair = chair; act = Asked q r at } ∷ []))

@@ -29,10 +29,10 @@ use Rattle.slack_meaning.specs.Answers.{counted, submit_if, submit, limit_at, aw
 use Rattle.rtio_core.proofs.Reasons.{limit-at-last}
 use Rattle.slack_meaning.proofs.Spans.{cycle-rises}
 use Rattle.slack_law.proofs.AnswerTimes.{asked_then, answered-by, few-at-once, output-in-time, wait-reads, wait-decided}
-use Rattle.slack_law.proofs.Standing.{IsEventWithin, IsRecordingWithin, AreKept, Bounds, bounds_of, IsBounded, hands}
+use Rattle.slack_law.proofs.Standing.{Any, IsEventWithin, IsRecordingWithin, AreKept, Bounds, bounds_of, IsBounded, hands}
 use Rattle.slack_law.proofs.Asking.{IsAnswered, IsAnsweredBy, Answers}
 use Rattle.slack_law.proofs.Hands.{one, hand-with, hands-with, names-with, names-known, hand-known, found-kept, kept-saved, kept-resaved, kept-erased}
-use Rattle.slack_law.proofs.Answering.{Any, count-after, HaveChanged, bounded-after, not-before, at-once, plain, done-reply, done-quiet, done-in-time, trace-in-time}
+use Rattle.slack_law.proofs.Answering.{count-after, HaveChanged, bounded-after, not-before, at-once, plain, done-reply, done-quiet, done-in-time, trace-in-time}
 use Rattle.sed_lanes.proofs.RisingLanes.{no-underflow}
 use Rattle.rtio_core.specs.Reply.{lanes_at}
 use Rattle.rtio_types.specs.Time.{cycle_of_stamp}

@@ -7,32 +7,27 @@ use Rattle.kern_syntax.specs.Tree.{Bytes, FunctionTree, ProgramTree}
 use Rattle.kern_calls.specs.declared.types.ValueType.{ValueType}
 use Rattle.kern_calls.specs.declared.types.ValueType.TheVariants as V
 use Rattle.kern_calls.specs.Types.{Names, Scope, function_named, names_of}
-use Rattle.rtio_core.specs.declared.data.Config.{Config}
-use Rattle.rtio_core.specs.declared.data.Entry.{Entry}
-use Rattle.rtio_core.specs.Lawful.{IsLawfulAfter}
-use Rattle.rtio_core.proofs.Settings.{AreInRange}
-use Rattle.timeline_sem.specs.Actions.{State, break, continue, return, raised, budget, unanswered, Completion, normal, early, Action}
+use Rattle.timeline_sem.specs.Actions.{break, continue, return, raised, budget, unanswered, Completion, normal, early}
 use Rattle.timeline_sem.specs.Expressions.{Callee}
 use Rattle.timeline_sem.specs.Laws.{final}
 use Rattle.timeline_sem.specs.Programs.{initial_value, initial_values, leave_function, optional_body, function_call}
 use Rattle.timeline_sem.specs.Statements.{block}
-use Rattle.timeline_sem.proofs.KeepsWhole.{AskedGrow, asked_grow, keeps_body, keeps_function_call}
+use Rattle.timeline_sem.proofs.KeepsWhole.{AskedGrow, asked_grow, keeps_body}
 use Rattle.slack_meaning.specs.declared.span.Span.{Span}
 use Rattle.slack_meaning.specs.Spans.{exactly}
-use Rattle.slack_meaning.specs.Actions.{Held}
-use Rattle.slack_meaning.specs.Actions as S
 use Rattle.slack_meaning.specs.Expressions as E
 use Rattle.slack_meaning.specs.Programs as G
-use Rattle.slack_law.specs.Promise.{Answered}
-use Rattle.slack_law.proofs.Standing.{IsWithin, AreWithin, IsValueWithin, AreNamesWithin, asked_entry}
-use Rattle.slack_law.proofs.Following.{Grows, agree-grown, Follows}
+use Rattle.slack_law.proofs.Standing.{IsWithin, AreWithin, IsValueWithin, AreNamesWithin, Session, by_raising}
+use Rattle.slack_law.proofs.Following.{agree-grown, Follows, follows_then}
 use Rattle.slack_law.proofs.Within.{within-exactly}
-use Rattle.slack_law.proofs.Steps as T
+use Rattle.slack_law.proofs.Steps.{with-values, follows_stop, follows_unit}
+use Rattle.slack_law.proofs.Values.{each-exactly}
+use Rattle.slack_law.proofs.Expressions.{FollowsCalls, follows_exactly}
 use Rattle.slack_law.proofs.Control.{meets-left}
 use Rattle.slack_law.proofs.Statements.{replicated, follows_block}
 
 initial-within : (t : ValueType) → IsValueWithin (initial_value t) (G.initial_value t)
-initial-within (V.Array n) = replicated n (pos 0) (exactly (pos 0)) (within-exactly (pos 0))
+initial-within (V.Array n) = replicated n (within-exactly (pos 0))
 initial-within V.Int32 = within-exactly (pos 0)
 initial-within V.Int64 = within-exactly (pos 0)
 initial-within V.Bool = within-exactly (pos 0)
@@ -53,30 +48,22 @@ asked-left vs (early (raised x) s) = ([], sym (append-nil s.asked))
 asked-left vs (early budget s) = ([], sym (append-nil s.asked))
 asked-left vs (early unanswered s) = ([], sym (append-nil s.asked))
 
-module _ (config : Config) (ranges : AreInRange config) (chair : ℕ) (start : Entry) (world : List Answered) (lawful : IsLawfulAfter config (start ∷ []) (map (asked_entry chair) world)) where
-  abbrev F : {A B : Type 0} → (A → B → Type 0) → Action A → S.Action B → Type 0
-  F good m n = Follows config chair start world good m n
-
-  pub follows_body : (program : ProgramTree) (callee : Callee) (called : E.Callee) → ((f : Bytes) (xs : List ℤ) → Grows (callee f xs)) → ((f : Bytes) (xs : List ℤ) (ys : List Span) → AreWithin xs ys → F IsWithin (callee f xs) (called f ys)) → (f : Option FunctionTree) (xs : List ℤ) (ys : List Span) → AreWithin xs ys → F IsWithin (optional_body program callee f xs) (G.optional_body program called f ys)
-  follows_body program callee called grows follows None xs ys h = T.follows_give config chair start world (pos 0) (exactly (pos 0)) (within-exactly (pos 0))
-  follows_body program callee called grows follows (Some f) xs ys h = record {
-    grows = keeps_body AskedGrow AskedGrow asked_grow program callee grows (Some f) xs;
+module _ {session : Session} where
+  pub follows_body : (program : ProgramTree) {callee : Callee} {called : E.Callee} → FollowsCalls session callee called → (f : Option FunctionTree) (xs : List ℤ) (ys : List Span) → AreWithin xs ys → Follows session IsWithin (optional_body program callee f xs) (G.optional_body program called f ys)
+  follows_body program follows None xs ys h = follows_exactly (pos 0)
+  follows_body program {callee} {called} follows (Some f) xs ys h = record {
+    grows = keeps_body AskedGrow AskedGrow asked_grow program callee (λ g ns. (follows g ns (map exactly ns) (each-exactly ns)).grows) (Some f) xs;
     from = λ s a st agree.
-        let scope : Scope = record { program = program; names = names_of program f } in
-        let body = follows_block config ranges chair start world lawful scope callee called grows follows f.body in
-        let begins : State = record s { values = initial_values (names_of program f) xs } in
-        let begun : S.State = record a { values = G.initial_values (names_of program f) ys } in
-        meets-left config ranges chair start world lawful s.values a.values st.values
-        (body.from begins begun (T.stands-values config chair start world s a (initial_values (names_of program f) xs) (G.initial_values (names_of program f) ys) st (begun-within (names_of program f) xs ys h))
-        (agree-grown (final (block scope callee f.body begins)) (final (leave_function s.values (block scope callee f.body begins))) world (asked-left s.values (block scope callee f.body begins)) agree));
+        let names = names_of program f in
+        let scope : Scope = record { program = program; names = names } in
+        let ends : Completion ⊤ = block scope callee f.body (record s { values = initial_values names xs }) in
+        meets-left s.values a.values st.values
+        ((follows_block scope callee called follows f.body).from (record s { values = initial_values names xs }) (record a { values = G.initial_values names ys })
+        (with-values st (begun-within names xs ys h))
+        (agree-grown (final ends) (final (leave_function s.values ends)) session.world (asked-left s.values ends) agree));
   }
 
-  pub grows_function_call : (program : ProgramTree) (room : ℕ) (f : Bytes) (xs : List ℤ) → Grows (function_call program room f xs)
-  grows_function_call program room f xs = keeps_function_call AskedGrow AskedGrow asked_grow program room f xs
-
-  pub follows_function_call : (program : ProgramTree) (room : ℕ) (f : Bytes) (xs : List ℤ) (ys : List Span) → AreWithin xs ys → F IsWithin (function_call program room f xs) (G.function_call program room f ys)
-  follows_function_call program zero f xs ys h =
-      T.follows_then config chair start world (T.follows_unit config chair start world) (T.follows_raised config chair start world StackOverflow)
+  pub follows_function_call : (program : ProgramTree) (room : ℕ) → FollowsCalls session (function_call program room) (G.function_call program room)
+  follows_function_call program zero f xs ys h = follows_then follows_unit (follows_stop (by_raising StackOverflow))
   follows_function_call program (suc room) f xs ys h =
-      T.follows_then config chair start world (T.follows_unit config chair start world)
-      (follows_body program (function_call program room) (G.function_call program room) (grows_function_call program room) (follows_function_call program room) (function_named program f) xs ys h)
+      follows_then follows_unit (follows_body program (follows_function_call program room) (function_named program f) xs ys h)

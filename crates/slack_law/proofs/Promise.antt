@@ -29,10 +29,10 @@ use Rattle.slack_meaning.specs.Programs as G
 use Rattle.slack_meaning.specs.Programs.{most_units, slack_verdict}
 use Rattle.slack_law.specs.Promise.{Answered, first_session, requests_of, replies_of, AreAskedBy, AreInTime, NeverUnderflows}
 use Rattle.slack_law.proofs.AnswerTimes.{open-after}
-use Rattle.slack_law.proofs.Standing.{IsWithin, AreInTimeFor, Agree, asked_entry, bounds_of, IsBounded, Stands, IsSafe, Meets, stopped, normally, alike, only}
+use Rattle.slack_law.proofs.Standing.{IsWithin, AreInTimeFor, Agree, asked_entry, bounds_of, IsBounded, Session, Stands, IsSafe, Meets, stopped, normally, alike, only}
 use Rattle.slack_law.proofs.Following.{safe}
 use Rattle.slack_law.proofs.Within.{within-exactly}
-use Rattle.slack_law.proofs.Programs.{follows_body, grows_function_call, follows_function_call}
+use Rattle.slack_law.proofs.Programs.{follows_body, follows_function_call}
 
 -- requests that begin with those that were answered agree with them
 agree-self : (xs : List Answered) (rest : List Request) → Agree (requests_of xs ++ rest) xs
@@ -53,13 +53,12 @@ not-yes : (stopped : Stopped) (outs : ℕ) → G.verdict_where stopped ≡ Yes o
 not-yes (W.TooLate n e limit) outs is = absurd (cc)
 not-yes (W.Unknown n why) outs is = absurd (cc)
 
-module _ (config : Config) (chair : ℕ) (start : Entry) (world : List Answered) where
-  -- a run whose verdict is yes was safe
-  meets-safe : {c : Completion ℤ} {d : S.Completion Span} (outs : ℕ) → G.verdict_of d ≡ Yes outs → Meets config chair start world IsWithin c d → IsSafe config chair start world (final c)
-  meets-safe outs is (stopped verdict a) = absurd (not-yes verdict outs is)
-  meets-safe outs is (normally {s = s} {a = a} h st) = safe config chair start world s a st
-  meets-safe outs is (alike {s = s} {a = a} ends st) = safe config chair start world s a st
-  meets-safe outs is (only ends h) = h
+-- a run whose verdict is yes was safe
+meets-safe : {session : Session} {c : Completion ℤ} {d : S.Completion Span} (outs : ℕ) → G.verdict_of d ≡ Yes outs → Meets session IsWithin c d → IsSafe session (final c)
+meets-safe outs is (stopped verdict a) = absurd (not-yes verdict outs is)
+meets-safe outs is (normally h st) = safe st
+meets-safe outs is (alike ends st) = safe st
+meets-safe outs is (only ends h) = h
 
 none-some : (o : Option (ℕ × ℕ)) (p : ℕ × ℕ) → o ≡ None → o ≡ Some p → ⊥
 none-some o p h k = let clash : false ≡ true = sym (ap is_some h) ∙ ap is_some k in absurd (cc)
@@ -105,15 +104,20 @@ first-safe program function cost depth outs config ranges units chair (Asked q r
 first-safe program function cost depth outs config ranges units chair (End outcome cursor at) rest says same deep may lawful few asked = absurd (none-some (open_session []) (chair, may.0.0) refl may.0.1)
 first-safe program function cost depth outs config ranges units chair (Start of cursor at) rest says same deep may lawful few asked =
     let start : Entry = record { chair = chair; act = Start of cursor at } in
-    let world : List Answered = first_session rest in
-    let session : IsLawfulAfter config (start ∷ []) (map (asked_entry chair) world) = session-of config chair of.rid (start ∷ []) rest refl lawful in
-    let s : State = opening (pos 0) units (replies_of world) in
+    let session : Session = record {
+      config = config;
+      ranges = ranges;
+      chair = chair;
+      start = start;
+      world = first_session rest;
+      lawful = session-of config chair of.rid (start ∷ []) rest refl lawful;
+    } in
+    let s : State = opening (pos 0) units (replies_of session.world) in
     let a : S.State = G.opening most_units cost depth in
     let c : Completion ℤ = optional_body program (function_call program call_room) (slice_get program function) [] s in
-    let d : S.Completion Span = G.optional_body program (G.function_call program call_room) (slice_get program function) [] a in
-    let stands : Stands config chair start world s a = record {
+    let stands : Stands session s a = record {
       past = [];
-      left = world;
+      left = session.world;
       whole = refl;
       asked = refl;
       replies = refl;
@@ -124,11 +128,10 @@ first-safe program function cost depth outs config ranges units chair (Start of 
       units = few;
       collected = tt;
     } in
-    let all : (final c).asked ≡ requests_of world ++ asked.0 = sym (requests-of-meaning c) ∙ asked.1 in
-    let agree : Agree (final c).asked world = subst (λ qs. Agree qs world) (sym all) (agree-self world asked.0) in
-    let follows = follows_body config ranges chair start world session program (function_call program call_room) (G.function_call program call_room) (grows_function_call config ranges chair start world session program call_room) (follows_function_call config ranges chair start world session program call_room) (slice_get program function) [] [] tt in
-    let met : Meets config chair start world IsWithin c d = follows.from s a stands agree in
-    all-in-time world asked.0 (subst (λ qs. AreInTimeFor qs world) all (meets-safe config chair start world outs says met))
+    let all : (final c).asked ≡ requests_of session.world ++ asked.0 = sym (requests-of-meaning c) ∙ asked.1 in
+    let agree : Agree (final c).asked session.world = subst (λ qs. Agree qs session.world) (sym all) (agree-self session.world asked.0) in
+    let follows = follows_body {session = session} program (follows_function_call program call_room) (slice_get program function) [] [] tt in
+    all-in-time session.world asked.0 (subst (λ qs. AreInTimeFor qs session.world) all (meets-safe outs says (follows.from s a stands agree)))
 
 pub never-underflows : (program : ProgramTree) (function cost depth outs : ℕ) → slack_verdict program function cost depth ≡ Yes outs → NeverUnderflows program function cost depth
 never-underflows program function cost depth outs says config [] units ok same deep lawful few asked = All-nil (λ (a : Answered). a.reply ≢ answer.Underflow)

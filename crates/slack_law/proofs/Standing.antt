@@ -16,6 +16,8 @@ use Rattle.rtio_core.specs.declared.data.Act.TheVariants.{Asked}
 use Rattle.rtio_core.specs.declared.data.Config.{Config}
 use Rattle.rtio_core.specs.declared.data.Entry.{Entry}
 use Rattle.rtio_core.specs.Entries.{judged_history, kept_after, last_at, last_saved, limit as limit_of, open_session}
+use Rattle.rtio_core.specs.Lawful.{IsLawfulAfter}
+use Rattle.rtio_core.proofs.Settings.{AreInRange}
 use Rattle.timeline_sem.specs.Actions.{State, Reason, break, continue, return, raised, budget, unanswered, Completion, normal, early}
 use Rattle.slack_meaning.specs.declared.span.Span.{Span}
 use Rattle.slack_meaning.specs.declared.span.SpanEvent.{SpanEvent}
@@ -24,6 +26,10 @@ use Rattle.slack_meaning.specs.declared.verdict.Stopped.{Stopped}
 use Rattle.slack_meaning.specs.Actions as S
 use Rattle.slack_meaning.specs.Answers.{at_hand}
 use Rattle.slack_law.specs.Promise.{Answered, requests_of, replies_of}
+
+-- where there is nothing to say of a value
+abbrev pub Any : {A B : Type 0} → A → B → Type 0
+Any x y = Unit {0}
 
 -- a number lies within a span
 pub record IsWithin (n : ℤ) (span : Span) : Type 0 where
@@ -135,28 +141,36 @@ pub record IsBounded (config : Config) (history : List Entry) (a : Bounds) : Typ
   pub few : length (kept_after config history).entries ≤ 64 + hands a.saved
   pub names : length a.saved ≤ 1000
 
-module _ (config : Config) (chair : ℕ) (start : Entry) (world : List Answered) where
-  -- the history of the session that began so, after these answers
-  abbrev pub history_of : List Answered → List Entry
-  history_of past = start ∷ map (asked_entry chair) past
+-- a core and a session of it: how it began, and what it was answered, which is lawful
+pub record Session : Type 0 where
+  pub config : Config
+  pub ranges : AreInRange config
+  pub chair : ℕ
+  pub start : Entry
+  pub world : List Answered
+  pub lawful : IsLawfulAfter config (start ∷ []) (map (asked_entry chair) world)
 
-  -- a state of the run without a core stands for one of the kernel that was answered so, and will be
-  pub record Stands (s : State) (a : S.State) : Type 0 where
-    pub past : List Answered
-    pub left : List Answered
-    pub whole : world ≡ past ++ left
-    pub asked : s.asked ≡ requests_of past
-    pub replies : s.replies ≡ replies_of left
-    pub in_time : AreAllInTime past
-    pub bounded : IsBounded config (history_of past) (bounds_of a)
-    pub values : AreNamesWithin s.values a.values
-    pub cursor : IsWithin s.cursor a.cursor
-    pub units : s.units ≤ a.units
-    pub collected : IsCollectedWithin s.collected a.collected
+-- the history after these answers
+abbrev pub history_of : Session → List Answered → List Entry
+history_of session past = session.start ∷ map (asked_entry session.chair) past
 
-  -- all that was answered was in time
-  abbrev pub IsSafe : State → Type 0
-  IsSafe s = AreInTimeFor s.asked world
+-- a state of the run without a core stands for one of the kernel that was answered so, and will be
+pub record Stands (session : Session) (s : State) (a : S.State) : Type 0 where
+  pub past : List Answered
+  pub left : List Answered
+  pub whole : session.world ≡ past ++ left
+  pub asked : s.asked ≡ requests_of past
+  pub replies : s.replies ≡ replies_of left
+  pub in_time : AreAllInTime past
+  pub bounded : IsBounded session.config (history_of session past) (bounds_of a)
+  pub values : AreNamesWithin s.values a.values
+  pub cursor : IsWithin s.cursor a.cursor
+  pub units : s.units ≤ a.units
+  pub collected : IsCollectedWithin s.collected a.collected
+
+-- all that was answered was in time
+abbrev pub IsSafe : Session → State → Type 0
+IsSafe session s = AreInTimeFor s.asked session.world
 
 -- why the kernel ends where the other run needn't: it has no units or no replies left
 pub data OnlyEnds : Reason → Type 0 where
@@ -172,8 +186,8 @@ pub data EndsAlike : Reason → S.Reason → Type 0 where
 
 -- an end of the run without a core is met by that of the kernel: its verdict stands, and nothing is claimed; or both end
 -- alike; or only the kernel ends, and was safe up to there
-pub data Meets (config : Config) (chair : ℕ) (start : Entry) (world : List Answered) {A B : Type 0} (good : A → B → Type 0) : Completion A → S.Completion B → Type 0 where
-  stopped : {c : Completion A} (verdict : Stopped) (a : S.State) → Meets config chair start world good c (S.early (S.decided verdict) a)
-  normally : {x : A} {y : B} {s : State} {a : S.State} → good x y → Stands config chair start world s a → Meets config chair start world good (normal x s) (S.normal y a)
-  alike : {r : Reason} {t : S.Reason} {s : State} {a : S.State} → EndsAlike r t → Stands config chair start world s a → Meets config chair start world good (early r s) (S.early t a)
-  only : {r : Reason} {s : State} {d : S.Completion B} → OnlyEnds r → IsSafe config chair start world s → Meets config chair start world good (early r s) d
+pub data Meets (session : Session) {A B : Type 0} (good : A → B → Type 0) : Completion A → S.Completion B → Type 0 where
+  stopped : {c : Completion A} (verdict : Stopped) (a : S.State) → Meets session good c (S.early (S.decided verdict) a)
+  normally : {x : A} {y : B} {s : State} {a : S.State} → good x y → Stands session s a → Meets session good (normal x s) (S.normal y a)
+  alike : {r : Reason} {t : S.Reason} {s : State} {a : S.State} → EndsAlike r t → Stands session s a → Meets session good (early r s) (S.early t a)
+  only : {r : Reason} {s : State} {d : S.Completion B} → OnlyEnds r → IsSafe session s → Meets session good (early r s) d

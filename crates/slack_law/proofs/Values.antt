@@ -1,7 +1,7 @@
 -- Names, elements and operators follow those of the run without a core.
-use Rattle.std.proofs.Common.{◌≡◌, ℕ, zero, suc, Bool, true, false, List, [], ◌∷◌, Option, Some, None, refl, sym, ap, subst}
-use Rattle.std.specs.Prelude.{ℤ, pos, negsuc, ◌+ℤ◌, ◌-ℤ◌, ⊤, ◌&&◌, bytes_eq, slice_get, slice_set, unsigned_abs, option_map, if◌then◌else◌}
-use Rattle.std.specs.Int.{w64, int_wrap}
+use Rattle.std.proofs.Common.{◌≡◌, ℕ, zero, suc, Bool, true, false, List, [], ◌∷◌, map, Option, Some, None, refl, sym, ap, subst}
+use Rattle.std.specs.Prelude.{ℤ, pos, negsuc, ◌+ℤ◌, ◌-ℤ◌, ◌&&◌, bytes_eq, slice_get, slice_set, unsigned_abs, option_map, if◌then◌else◌}
+use Rattle.std.specs.Int.{int_wrap}
 use Rattle.rtio_types.specs.declared.outcome.Exc.{Exc}
 use Rattle.rtio_types.specs.declared.outcome.Exc.TheVariants.{IndexError, ZeroDivisionError}
 use Rattle.rtio_types.specs.declared.request.Value.{Value}
@@ -12,13 +12,11 @@ use Rattle.kern_syntax.specs.Tree.{Bytes}
 use Rattle.kern_calls.specs.declared.types.ValueType.{ValueType}
 use Rattle.kern_calls.specs.declared.types.ValueType.TheVariants as V
 use Rattle.kern_calls.specs.Types.{width_of, bits_of}
-use Rattle.rtio_core.specs.declared.data.Config.{Config}
-use Rattle.rtio_core.specs.declared.data.Entry.{Entry}
 use Rattle.timeline_sem.specs.Actions.{State, Action, give, ◌>>=◌}
 use Rattle.timeline_sem.specs.Laws.{final}
 use Rattle.timeline_sem.specs.Numbers.{exact_result}
 use Rattle.timeline_sem.specs.Expressions.{value_of, with_value, number_in_value, list_in_value, read, write as write_name, or_raise, place_in, with_item, read_element, write_element, operate}
-use Rattle.timeline_sem.proofs.Keeps.{keeps_bind, keeps_give, keeps_read, keeps_write, keeps_or_raise, keeps_operate}
+use Rattle.timeline_sem.proofs.Keeps.{keeps_give, keeps_read, keeps_write, keeps_operate}
 use Rattle.timeline_sem.proofs.KeepsWhole.{AskedGrow, asked_grow}
 use Rattle.slack_meaning.specs.declared.verdict.OpenKind.TheVariants as K
 use Rattle.slack_meaning.specs.declared.verdict.Stopped.TheVariants as Z
@@ -27,12 +25,11 @@ use Rattle.slack_meaning.specs.Spans.{exactly, is_number, is_near, span_sum, spa
 use Rattle.slack_meaning.specs.Actions.{Held}
 use Rattle.slack_meaning.specs.Actions as S
 use Rattle.slack_meaning.specs.Expressions as E
-use Rattle.slack_law.specs.Promise.{Answered}
-use Rattle.slack_law.proofs.Standing.{IsWithin, AreWithin, IsValueWithin, AreNamesWithin, Agree, Stands, Meets, stopped, normally}
-use Rattle.slack_law.proofs.Following.{Follows, after, follows_bind}
-use Rattle.slack_law.proofs.Answering.{Any}
+use Rattle.slack_meaning.proofs.Spans.{both}
+use Rattle.slack_law.proofs.Standing.{IsWithin, AreWithin, IsValueWithin, AreNamesWithin, Agree, Session, Stands, by_raising, Meets, stopped, normally}
+use Rattle.slack_law.proofs.Following.{Follows, FollowsPart, IsTotal, after, follows_bind}
 use Rattle.slack_law.proofs.Within.{within-exactly, number-within, sum-within, less-within, near-fits}
-use Rattle.slack_law.proofs.Steps as T
+use Rattle.slack_law.proofs.Steps.{with-values, follows_give, follows_stop, follows_open, follows_number}
 
 -- what a name holds
 held-within : (xs : List (Bytes × Value)) (ys : List (Bytes × Held)) (x : Bytes) → AreNamesWithin xs ys → IsValueWithin (value_of xs x) (E.held_by ys x)
@@ -104,89 +101,98 @@ item-within xs ys i x y h new = by (place_in xs i) (E.place_in ys i) (place-with
     by None (Some b) k = absurd k
     by (Some a) None k = absurd k
 
-module _ (config : Config) (chair : ℕ) (start : Entry) (world : List Answered) where
-  abbrev F : {A B : Type 0} → (A → B → Type 0) → Action A → S.Action B → Type 0
-  F good m n = Follows config chair start world good m n
+-- a list of numbers lies within them
+pub each-exactly : (xs : List ℤ) → AreWithin xs (map exactly xs)
+each-exactly [] = tt
+each-exactly (x ∷ xs) = (within-exactly x, each-exactly xs)
 
-  pub follows_read : (x : Bytes) → F IsValueWithin (read x) (E.read x)
-  follows_read x =
-      record { grows = keeps_read AskedGrow AskedGrow asked_grow x; from = λ s a st agree. normally (held-within s.values a.values x st.values) st }
+-- each value of a name lies within one that is held, each list within a list of spans
+pub held-total : IsTotal IsValueWithin
+held-total (W.Int n) = (S.number (exactly n), within-exactly n)
+held-total (W.List ns) = (S.list (map exactly ns), each-exactly ns)
 
-  pub follows_write : (x : Bytes) (v : Value) (w : Held) → IsValueWithin v w → F {A = ⊤} {B = ⊤} Any (write_name x v) (E.write x w)
-  follows_write x v w h =
-      record { grows = keeps_write AskedGrow AskedGrow asked_grow x v; from = λ s a st agree. normally tt (T.stands-values config chair start world s a (with_value s.values x v) (E.with_held a.values x w) st (new-within s.values a.values x v w st.values h)) }
+module _ {session : Session} where
+  pub follows_read : (x : Bytes) → Follows session IsValueWithin (read x) (E.read x)
+  follows_read x = record {
+    grows = keeps_read AskedGrow AskedGrow asked_grow x;
+    from = λ s a st agree. normally (held-within s.values a.values x st.values) st;
+  }
 
-  follows_there : {A B : Type 0} (good : A → B → Type 0) (o : Option A) (p : Option B) (x : Exc) → IsThere good o p → F good (or_raise o x) (E.or_raise p x)
-  follows_there good None None x h = T.follows_raised config chair start world x
-  follows_there good (Some a) (Some b) x h = T.follows_give config chair start world a b h
-  follows_there good None (Some b) x h = absurd h
-  follows_there good (Some a) None x h = absurd h
+  pub follows_write : (x : Bytes) (v : Value) (w : Held) → IsValueWithin v w → FollowsPart session (write_name x v) (E.write x w)
+  follows_write x v w h = record {
+    grows = keeps_write AskedGrow AskedGrow asked_grow x v;
+    from = λ s a st agree. normally tt (with-values st (new-within s.values a.values x v w st.values h));
+  }
 
-  pub follows_read_element : (x : Bytes) (i : ℤ) (span : Span) → IsWithin i span → F IsWithin (read_element x i) (E.read_element x span)
-  follows_read_element x i span h =
-      T.follows_number config chair start world i span (read_element x i) (λ place. after (E.read x) (λ held. E.or_raise (E.place_in (E.spans_in held) place) IndexError)) h
-      (follows_bind config chair start world IsValueWithin IsWithin (read x) (E.read x) (λ held. or_raise (place_in (list_in_value held) i) IndexError) (λ held. E.or_raise (E.place_in (E.spans_in held) i) IndexError)
-      (follows_read x)
-      (λ held. keeps_or_raise AskedGrow AskedGrow asked_grow (place_in (list_in_value held) i) IndexError)
-      (λ v w k. follows_there IsWithin (place_in (list_in_value v) i) (E.place_in (E.spans_in w) i) IndexError (place-within (list_in_value v) (E.spans_in w) i (spans-in v w k))))
+  -- a part whose value is what a name holds
+  pub with_held_value : {C D : Type 0} {better : C → D → Type 0} {m : Action Value} {n : S.Action Held} {f : Value → Action C} {g : Held → S.Action D}
+      → Follows session IsValueWithin m n → ((v : Value) (w : Held) → IsValueWithin v w → Follows session better (f v) (g w))
+      → Follows session better (m >>= f) (after n g)
+  with_held_value h k = follows_bind held-total h k
 
-  pub follows_write_element : (x : Bytes) (i : ℤ) (span : Span) (n : ℤ) (new : Span) → IsWithin i span → IsWithin n new → F {A = ⊤} {B = ⊤} Any (write_element x i n) (E.write_element x span new)
-  follows_write_element x i span n new h k =
-      T.follows_number config chair start world i span (write_element x i n) (λ place. after (E.read x) (λ held. after (E.or_raise (E.with_item (E.spans_in held) place new) IndexError) (λ spans. E.write x (S.list spans)))) h
-      (follows_bind config chair start world IsValueWithin Any (read x) (E.read x) (λ held. or_raise (with_item (list_in_value held) i n) IndexError >>= (λ items. write_name x (W.List items))) (λ held. after (E.or_raise (E.with_item (E.spans_in held) i new) IndexError) (λ spans. E.write x (S.list spans)))
-      (follows_read x)
-      (λ held. keeps_bind AskedGrow AskedGrow asked_grow (keeps_or_raise AskedGrow AskedGrow asked_grow (with_item (list_in_value held) i n) IndexError) (λ items. keeps_write AskedGrow AskedGrow asked_grow x (W.List items)))
-      (λ v w l. follows_bind config chair start world AreWithin Any (or_raise (with_item (list_in_value v) i n) IndexError) (E.or_raise (E.with_item (E.spans_in w) i new) IndexError) (λ items. write_name x (W.List items)) (λ spans. E.write x (S.list spans))
-      (follows_there AreWithin (with_item (list_in_value v) i n) (E.with_item (E.spans_in w) i new) IndexError (item-within (list_in_value v) (E.spans_in w) i n new (spans-in v w l) k))
-      (λ items. keeps_write AskedGrow AskedGrow asked_grow x (W.List items))
+  -- one whose value is a list
+  pub with_numbers : {C D : Type 0} {better : C → D → Type 0} {m : Action (List ℤ)} {n : S.Action (List Span)} {f : List ℤ → Action C} {g : List Span → S.Action D}
+      → Follows session AreWithin m n → ((xs : List ℤ) (ys : List Span) → AreWithin xs ys → Follows session better (f xs) (g ys))
+      → Follows session better (m >>= f) (after n g)
+  with_numbers h k = follows_bind (λ xs. (map exactly xs, each-exactly xs)) h k
+
+  follows_there : {A B : Type 0} {good : A → B → Type 0} (o : Option A) (p : Option B) (x : Exc) → IsThere good o p → Follows session good (or_raise o x) (E.or_raise p x)
+  follows_there None None x h = follows_stop (by_raising x)
+  follows_there (Some a) (Some b) x h = follows_give h
+  follows_there None (Some b) x h = absurd h
+  follows_there (Some a) None x h = absurd h
+
+  pub follows_read_element : (x : Bytes) {i : ℤ} {span : Span} → IsWithin i span → Follows session IsWithin (read_element x i) (E.read_element x span)
+  follows_read_element x {i} h =
+      follows_number _ h
+      (with_held_value (follows_read x)
+      (λ v w k. follows_there (place_in (list_in_value v) i) (E.place_in (E.spans_in w) i) IndexError (place-within (list_in_value v) (E.spans_in w) i (spans-in v w k))))
+
+  pub follows_write_element : (x : Bytes) {i n : ℤ} {span new : Span} → IsWithin i span → IsWithin n new → FollowsPart session (write_element x i n) (E.write_element x span new)
+  follows_write_element x {i} {n} {span} {new} h k =
+      follows_number _ h
+      (with_held_value (follows_read x)
+      (λ v w l. with_numbers (follows_there (with_item (list_in_value v) i n) (E.with_item (E.spans_in w) i new) IndexError (item-within (list_in_value v) (E.spans_in w) i n new (spans-in v w l) k))
       (λ items spans j. follows_write x (W.List items) (S.list spans) j)))
 
   -- the same option on both sides
-  follows_same : (o : Option ℤ) (w : ℤ → ℤ) → F IsWithin (or_raise o ZeroDivisionError >>= (λ exact. give (w exact))) (after (E.or_raise o ZeroDivisionError) (λ exact. S.give (exactly (w exact))))
-  follows_same None w = T.follows_raised config chair start world ZeroDivisionError
-  follows_same (Some e) w = T.follows_give config chair start world (w e) (exactly (w e)) (within-exactly (w e))
+  follows_same : (o : Option ℤ) (w : ℤ → ℤ) → Follows session IsWithin (or_raise o ZeroDivisionError >>= (λ exact. give (w exact))) (after (E.or_raise o ZeroDivisionError) (λ exact. S.give (exactly (w exact))))
+  follows_same None w = follows_stop (by_raising ZeroDivisionError)
+  follows_same (Some e) w = follows_give (within-exactly (w e))
 
   -- a span at the end of a part
-  follows_reached : (n : ℤ) (span : Span) → (is_near span ≡ true → IsWithin n span) → F IsWithin (give n) (S.within_near span)
-  follows_reached n span h = record { grows = keeps_give AskedGrow AskedGrow asked_grow n; from = by (is_near span) refl }
+  follows_reached : {n : ℤ} {span : Span} → (is_near span ≡ true → IsWithin n span) → Follows session IsWithin (give n) (S.within_near span)
+  follows_reached {n} {span} h = record { grows = keeps_give AskedGrow AskedGrow asked_grow n; from = by (is_near span) refl }
     where
-      by : (b : Bool) → is_near span ≡ b → (s : State) (a : S.State) → Stands config chair start world s a → Agree (final (give n s)).asked world → Meets config chair start world IsWithin (give n s) (S.span_if b span a)
+      by : (b : Bool) → is_near span ≡ b → (s : State) (a : S.State) → Stands session s a → Agree (final (give n s)).asked session.world → Meets session IsWithin (give n s) (S.span_if b span a)
       by true near s a st agree = normally (h near) st
       by false far s a st agree = stopped (Z.Unknown a.requests K.Far) a
 
-  follows_sum : (x y : ℤ) (a b : Span) → IsWithin x a → IsWithin y b → F IsWithin (operate O.Add V.Int64 x y) (S.within_near (span_sum a b))
+  follows_sum : (x y : ℤ) (a b : Span) → IsWithin x a → IsWithin y b → Follows session IsWithin (operate O.Add V.Int64 x y) (S.within_near (span_sum a b))
   follows_sum x y a b h k =
-      let inner = follows_reached (int_wrap w64 (x +ℤ y)) (span_sum a b) (λ near.
       let sum = sum-within x y a b h k in
-      subst (λ t. IsWithin t (span_sum a b)) (sym (near-fits (x +ℤ y) (span_sum a b) near sum)) sum) in
-      record { grows = keeps_operate AskedGrow AskedGrow asked_grow O.Add V.Int64 x y; from = inner.from }
+      follows_reached (λ near. subst (λ t. IsWithin t (span_sum a b)) (sym (near-fits (x +ℤ y) (span_sum a b) near sum)) sum)
 
-  follows_less : (x y : ℤ) (a b : Span) → IsWithin x a → IsWithin y b → F IsWithin (operate O.Subtract V.Int64 x y) (E.less a b)
+  follows_less : (x y : ℤ) (a b : Span) → IsWithin x a → IsWithin y b → Follows session IsWithin (operate O.Subtract V.Int64 x y) (E.less a b)
   follows_less x y a b h k =
-      let inner = follows_reached (int_wrap w64 (x -ℤ y)) (span_less a y) (λ near.
       let part = less-within x y a h in
-      subst (λ t. IsWithin t (span_less a y)) (sym (near-fits (x -ℤ y) (span_less a y) near part)) part) in
-      T.follows_number config chair start world y b (operate O.Subtract V.Int64 x y) (λ n. S.within_near (span_less a n)) k
-      (record { grows = keeps_operate AskedGrow AskedGrow asked_grow O.Subtract V.Int64 x y; from = inner.from })
+      follows_number _ k
+      (follows_reached (λ near. subst (λ t. IsWithin t (span_less a y)) (sym (near-fits (x -ℤ y) (span_less a y) near part)) part))
 
-  follows_spans : (op : BinaryOperator) (t : ValueType) (x y : ℤ) (a b : Span) → IsWithin x a → IsWithin y b → F IsWithin (operate op t x y) (E.operate_spans op t a b)
+  follows_spans : (op : BinaryOperator) (t : ValueType) (x y : ℤ) (a b : Span) → IsWithin x a → IsWithin y b → Follows session IsWithin (operate op t x y) (E.operate_spans op t a b)
   follows_spans O.Add V.Int64 x y a b h k = follows_sum x y a b h k
   follows_spans O.Subtract V.Int64 x y a b h k = follows_less x y a b h k
-  follows_spans O.Add t x y a b h k = T.follows_left_open config chair start world (operate O.Add t x y) K.Span (keeps_operate AskedGrow AskedGrow asked_grow O.Add t x y)
-  follows_spans O.Subtract t x y a b h k = T.follows_left_open config chair start world (operate O.Subtract t x y) K.Span (keeps_operate AskedGrow AskedGrow asked_grow O.Subtract t x y)
-  follows_spans op t x y a b h k = T.follows_left_open config chair start world (operate op t x y) K.Span (keeps_operate AskedGrow AskedGrow asked_grow op t x y)
+  follows_spans O.Add t x y a b h k = follows_open K.Span (keeps_operate AskedGrow AskedGrow asked_grow O.Add t x y)
+  follows_spans O.Subtract t x y a b h k = follows_open K.Span (keeps_operate AskedGrow AskedGrow asked_grow O.Subtract t x y)
+  follows_spans op t x y a b h k = follows_open K.Span (keeps_operate AskedGrow AskedGrow asked_grow op t x y)
 
-  pub follows_operate : (op : BinaryOperator) (t : ValueType) (x y : ℤ) (a b : Span) → IsWithin x a → IsWithin y b → F IsWithin (operate op t x y) (E.operate op t a b)
-  follows_operate op t x y a b h k = by (is_number a && is_number b) refl
+  pub follows_operate : (op : BinaryOperator) (t : ValueType) {x y : ℤ} {a b : Span} → IsWithin x a → IsWithin y b → Follows session IsWithin (operate op t x y) (E.operate op t a b)
+  follows_operate op t {x} {y} {a} {b} h k = by (is_number a && is_number b) refl
     where
-      split : (p q : Bool) → (p && q) ≡ true → (p ≡ true) × (q ≡ true)
-      split true q is = (refl, is)
-      split false q is = absurd (cc)
-
-      by : (p : Bool) → (is_number a && is_number b) ≡ p → F IsWithin (operate op t x y) (E.operate_if p op t a b)
+      by : (p : Bool) → (is_number a && is_number b) ≡ p → Follows session IsWithin (operate op t x y) (E.operate_if p op t a b)
       by true is =
-          let both = split (is_number a) (is_number b) is in
+          let parts = both (is_number a) (is_number b) is in
           let inner = follows_same (exact_result op (bits_of t) x y) (λ exact. int_wrap (width_of t) exact) in
-          subst (λ m. F IsWithin (operate op t x y) (E.operate_numbers op t m b.least)) (sym (number-within x a both.0 h))
-          (subst (λ n. F IsWithin (operate op t x y) (E.operate_numbers op t x n)) (sym (number-within y b both.1 k)) inner)
+          subst (λ m. Follows session IsWithin (operate op t x y) (E.operate_numbers op t m b.least)) (sym (number-within x a parts.0 h))
+          (subst (λ n. Follows session IsWithin (operate op t x y) (E.operate_numbers op t x n)) (sym (number-within y b parts.1 k)) inner)
       by false isnt = follows_spans op t x y a b h k

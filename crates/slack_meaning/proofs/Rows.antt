@@ -1,7 +1,7 @@
 -- Small kernels, whose verdicts are computed. What each must be was worked out by hand from the rule, as `docs/SLACK.md`
 -- does for one of them.
 use Rattle.std.proofs.Common.{◌≡◌, ℕ, List, [], ◌∷◌, ◌++◌, Some, None, refl}
-use Rattle.std.specs.Prelude.{pos, codes, slice_get}
+use Rattle.std.specs.Prelude.{pos, codes, replicate, slice_get}
 use Rattle.std.specs.Int.{int_wrap}
 use Rattle.rtio_types.specs.declared.event.Event.{Event}
 use Rattle.kern_syntax.specs.declared.expression.BinaryOperator.TheVariants.{Add, Subtract, Multiply, Divide}
@@ -15,7 +15,8 @@ use Rattle.slack_meaning.specs.declared.span.Span.{Span}
 use Rattle.slack_meaning.specs.declared.verdict.OpenKind.TheVariants as K
 use Rattle.slack_meaning.specs.declared.verdict.Verdict.{Verdict}
 use Rattle.slack_meaning.specs.declared.verdict.Verdict.TheVariants.{Yes, No, Open}
-use Rattle.slack_meaning.specs.Actions.{Completion, normal, early}
+use Rattle.slack_meaning.specs.Actions.{Completion, normal, early, State}
+use Rattle.slack_meaning.specs.Statements.{statement}
 use Rattle.slack_meaning.specs.Programs.{optional_body, function_call, opening, verdict_of, slack_verdict}
 
 -- the end of a program's first function with so many units
@@ -238,7 +239,23 @@ erased_since : verdict (recorded_two ∷ with_p (codes "erase") ∷ with_p (code
 unfolding int_wrap
 erased_since = refl
 
--- a number may be taken from a span, but no span from anything; nor is a span compared, multiplied or stored in a dataset
+-- the state of a kernel that saved 1,000 names, of which `q` is one: it may save `q` again, and no further name
+abbrev full : State
+full = record (opening 100 0 128) { saved = replicate 1000 (codes "q", None) }
+
+abbrev after_full : Bytes → Verdict
+after_full name =
+    verdict_of
+    (statement (record { program = []; names = [] }) (function_call [] call_room) (record_as name (lines (ttl0_on ∷ []))) full)
+
+known_name : after_full (codes "q") ≡ Yes 0
+known_name = refl
+
+one_name_more : after_full (codes "p") ≡ Open 0 K.Names
+one_name_more = refl
+
+-- a number may be taken from a span, but no span from anything; nor is a span compared, multiplied, widened, stored in a
+-- dataset, a bound of a loop or the moment of a wait
 span_less_span : verdict (reset ∷ reset ∷ assign a (binary Subtract now (integer 4)) ∷ assign a (binary Subtract now (variable a)) ∷ []) 8 128 ≡ Open 2 K.Span
 span_less_span = refl
 
@@ -250,6 +267,15 @@ span_multiplied = refl
 
 span_in_a_dataset : verdict (reset ∷ reset ∷ assign_list a (integer 0 ∷ now ∷ []) ∷ set_d (variable a) ∷ []) 8 128 ≡ Open 2 K.Span
 span_in_a_dataset = refl
+
+span_widened : verdict (reset ∷ reset ∷ assign a (call_of (codes "int64") now) ∷ []) 8 128 ≡ Open 2 K.Span
+span_widened = refl
+
+span_as_bound : verdict (reset ∷ reset ∷ for_range a None now (lines (pass ∷ [])) ∷ []) 8 128 ≡ Open 2 K.Span
+span_as_bound = refl
+
+span_awaited : verdict (reset ∷ reset ∷ method_one (codes "core") (codes "wait_until_mu") now ∷ []) 8 128 ≡ Open 2 K.Span
+span_awaited = refl
 
 -- at cost 0 there is none
 no_span : verdict (reset ∷ reset ∷ assign a (binary Multiply now (integer 1)) ∷ set_d (variable a) ∷ []) 0 128 ≡ Yes 0

@@ -8,5 +8,6 @@ use Rattle.slack_meaning.specs.Answers.{is_known, with_recording}
 abbrev pub IsPlaceOf : Bytes → List (Bytes × Option SpanRecording) → Option ℕ → Type 0
 IsPlaceOf name saved (Some place) =
     (place < length saved)
-    × ((new : Option SpanRecording) (entry : Bytes × Option SpanRecording) → entry ≡ get_or saved place entry → with_recording saved name new ≡ set saved place (entry.0, new))
+    × ((new : Option SpanRecording) (entry : Bytes × Option SpanRecording) → entry ≡ get_or saved place entry →
+    with_recording saved name new ≡ set saved place (entry.0, new))
 IsPlaceOf name saved None = is_known saved name ≡ false

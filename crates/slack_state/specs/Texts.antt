@@ -1,5 +1,5 @@
--- Which methods take a text, and what those without a value do.
-use Rattle.std.specs.Prelude.{List, pos, Bool, true, false, ⊤}
+-- What methods without a value do.
+use Rattle.std.specs.Prelude.{List, pos, ⊤}
 use Rattle.kern_syntax.specs.Tree.{Bytes}
 use Rattle.kern_calls.specs.declared.calls.Operation.{Operation}
 use Rattle.kern_calls.specs.declared.calls.Operation.TheVariants as P
@@ -7,24 +7,6 @@ use Rattle.slack_meaning.specs.declared.span.Span.{Span}
 use Rattle.slack_meaning.specs.Actions.{Action, skip, take_unit, ◌>>◌}
 use Rattle.slack_meaning.specs.Answers.{erase}
 use Rattle.slack_meaning.specs.Timeline.{first_of_list, second_of_list, output, pulse_for, write_raw, move_to_real_time, reset_core, wait_until, play, play_handle}
-
--- a text is among what a method takes
-abbrev pub operation_takes_text : Operation → Bool
-operation_takes_text P.Playback = true
-operation_takes_text P.GetHandle = true
-operation_takes_text P.Erase = true
-operation_takes_text _ = false
-
--- a method gives a value of its own
-abbrev pub has_value : Operation → Bool
-has_value (P.GateRising c) = true
-has_value (P.GateFalling c) = true
-has_value (P.GateBoth c) = true
-has_value (P.Timestamp c) = true
-has_value (P.Count c) = true
-has_value P.Counter = true
-has_value P.GetHandle = true
-has_value _ = false
 
 -- a recording is erased
 abbrev pub forget : Bytes → Action ⊤

@@ -7,19 +7,13 @@ ghost use Rattle.slack_meaning.specs.Actions.{take_unit};
 ghost use Rattle.slack_meaning.specs.Answers.{answered, await, read_lead, submit};
 
 use crate::early::Reason;
-use crate::spans::{are_both_numbers, exactly, sum};
+use crate::spans::{FARTHEST, are_both_numbers, exactly, sum};
 use meaning_numbers::moved_on;
-use rtio_types::Event;
+use rtio_types::{Event, counter_reaching, cycle_of_stamp, reading, whole_cycles};
 use slack_meaning::{OpenKind, Span, SpanEvent, Stopped};
 
-// How many machine units (mu) a coarse cycle has.
-const CYCLE: u64 = 8;
-
-// The lead that the cursor gets over a reading of the counter, in mu.
+// The lead that the cursor gets over a reading of the counter, in machine units (mu).
 const LEAD: u64 = 125_000;
-
-// The farthest that a lead may reach, in mu.
-const FARTHEST: u64 = 1 << 62;
 
 /// The units left, a bound for the core's limit and the least that its counter reads, both in mu, how many outputs and requests
 /// were asked, the cost of a request in mu, and how many events a lane takes at least.
@@ -34,27 +28,14 @@ pub struct Meter {
     pub depth: u32,
 }
 
-// The coarse cycle of a stamp in mu, 0 for one before it.
-fn cycle_of(stamp: i64) -> u64
-    ensures { result ≡ cycle_of_stamp stamp }
-{
-    if stamp < 0 {
-        return 0;
-    }
-    stamp as u64 / CYCLE
-}
-
-ghost use Rattle.rtio_types.specs.Time.{cycle_of_stamp, counter_reaching, reading};
-
 // What the counter reads first at a moment in mu or after it.
 fn reading_at(moment: i64) -> u64
     ensures { result ≡ reading (counter_reaching moment) }
 {
-    if moment < 0 {
-        return 0;
-    }
-    (moment as u64 + (CYCLE - 1)) / CYCLE * CYCLE
+    reading(counter_reaching(moment))
 }
+
+ghost use Rattle.rtio_types.specs.Time.{counter_reaching, reading};
 
 impl Meter {
     ghost use Rattle.std.specs.Prelude.{◌≡◌};
@@ -103,7 +84,7 @@ impl Meter {
         ensures does { (a : A.State) → MeterDoes result (metered a self.old) (metered a self.new) (submit event.now (metered a self.old)) }
         ensures solvent { IsSolvent self.new }
     {
-        if cycle_of(event.stamp.least) <= self.limit / CYCLE {
+        if cycle_of_stamp(event.stamp.least) <= whole_cycles(self.limit) {
             let earliest = Event {
                 channel: event.channel,
                 address: event.address,
@@ -117,7 +98,7 @@ impl Meter {
             }));
         }
         if self.outs >= self.depth as u64 {
-            let waited = cycle_of(event.stamp.greatest).saturating_sub(1) * CYCLE;
+            let waited = reading(cycle_of_stamp(event.stamp.greatest).saturating_sub(1));
             self.limit = self.limit.max(waited);
         }
         self.limit += self.cost;
@@ -132,7 +113,7 @@ impl Meter {
         ensures does { (a : A.State) → MeterDoes result (metered a self.old) (metered a self.new) (read_lead (metered a self.old)) }
         ensures solvent { IsSolvent self.new }
     {
-        if FARTHEST < self.limit + LEAD {
+        if self.limit + LEAD > FARTHEST as u64 {
             return Err(Reason::Decided(Stopped::Unknown {
                 requests: self.requests,
                 why: OpenKind::Far,

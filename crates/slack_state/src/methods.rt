@@ -3,9 +3,10 @@
 ghost use Rattle.std.specs.Prelude.{◌≡◌, [], IsSome, false, true, unwrap_or};
 ghost use Rattle.slack_meaning.specs.Timeline.{first_of_list, second_of_list, perform};
 ghost use Rattle.slack_state.specs.Does.{Does};
-ghost use Rattle.slack_state.specs.Texts.{act, has_value, operation_takes_text};
+ghost use Rattle.meaning_state.specs.Texts.{has_value, operation_takes_text};
+ghost use Rattle.slack_state.specs.Texts.{act};
 
-use crate::early::Early;
+use crate::early::{Early, Reason};
 use crate::spans::exactly;
 use crate::state::State;
 use kern_calls::Operation;
@@ -33,11 +34,12 @@ fn second_span(spans: &[Span]) -> Span
 }
 
 impl State {
+    ghost use Rattle.slack_state.specs.Does.{DoesAlways};
     ghost use Rattle.slack_state.specs.Texts.{forget};
 
     // Erases the recording of a name.
-    fn forget(&mut self, name: Name) -> Result<(), Early>
-        ensures { Does result self.new (forget name self.old) }
+    fn forget(&mut self, name: &Name) -> Result<(), Reason>
+        ensures { DoesAlways result self.new (forget name.now self.old) }
     {
         self.take_unit()?;
         self.erase(name)
@@ -96,7 +98,7 @@ fn act(
             None => unreachable!(),
         },
         Operation::Erase => match text {
-            Some(name) => state.forget(name),
+            Some(name) => Ok(state.forget(&name)?),
             None => unreachable!(),
         },
         _ => unreachable!(),

@@ -8,7 +8,9 @@ use std::marker::Model;
 /// A recording whose stamps and length may be spans. Contracts see it as a list and a span.
 #[derive(Debug, Drop)]
 pub struct SpanRecording {
+    /// Its outputs, with stamps from its start in machine units (mu).
     pub events: Vec<SpanEvent>,
+    /// How far its playback moves the cursor, in mu.
     pub length: Span,
 }
 
@@ -61,7 +63,7 @@ impl Saved {
     }
 }
 
-ghost use Rattle.std.specs.Prelude.{◌≡◌, IfOk, option_map};
+ghost use Rattle.std.specs.Prelude.{◌≡◌, IfOk, Some, option_map};
 ghost use Rattle.slack_meaning.specs.Answers.{at_hand, is_known, with_recording};
 
 /// Whether a name was saved.
@@ -112,20 +114,35 @@ fn place_of(saved: &[Saved], name: &Name) -> Option<usize>
     None
 }
 
+ghost use Rattle.std.specs.Prelude.{IsSome, None};
 ghost use Rattle.slack_state.specs.Places.{IsPlaceOf};
 
-/// Lets a name have this recording, or none: in its place, or at the end where it wasn't saved before. The only error is want
-/// of memory.
+/// Erases the recording of a name that is at hand. The name keeps its place.
+pub fn forget(saved: &mut [Saved], name: &Name)
+    requires { IsSome (at_hand saved.old name.now) }
+    ensures { saved.new ≡ with_recording saved.old name.now None }
+{
+    match place_of(saved, name) {
+        Some(place) => saved[place].replace(None),
+        None => unreachable!(),
+    }
+}
+
+/// Lets a name have this recording: in its place, or at the end where it wasn't saved before. The only error is want of
+/// memory.
 pub fn remember(
     saved: &mut Vec<Saved>,
     name: Name,
-    recording: Option<SpanRecording>,
+    recording: SpanRecording,
 ) -> Result<(), AllocError>
-    ensures { IfOk result (λ _. saved.new.items ≡ with_recording saved.old.items name recording) }
+    ensures { IfOk result (λ _. saved.new.items ≡ with_recording saved.old.items name (Some recording)) }
 {
     match place_of(saved.as_slice(), &name) {
-        Some(place) => saved[place].replace(recording),
-        None => saved.push(Saved { name, recording })?,
+        Some(place) => saved[place].replace(Some(recording)),
+        None => saved.push(Saved {
+            name,
+            recording: Some(recording),
+        })?,
     }
     Ok(())
 }

@@ -2,7 +2,7 @@
 
 use crate::early::{Early, Reason};
 use crate::meter::Meter;
-use crate::recordings::{Saved, SpanRecording, at_hand, is_full_for, remember};
+use crate::recordings::{Saved, SpanRecording, at_hand, forget, is_full_for, remember};
 use crate::spans::{exactly, is_number};
 use crate::values::{Held, Variable, are_numbers_in, changed, hold, item, number_of, numbers_of};
 use meaning_numbers::low_word;
@@ -330,20 +330,20 @@ impl State {
         if is_full_for(&self.saved, &name) {
             return Err(Early::Ended(self.unknown(OpenKind::Names)));
         }
-        remember(&mut self.saved, name, Some(recording))?;
+        remember(&mut self.saved, name, recording)?;
         self.meter.answer();
         Ok(())
     }
 
     /// Erases the recording of a name, whose unit is taken.
-    pub fn erase(&mut self, name: Name) -> Result<(), Early>
+    pub fn erase(&mut self, name: &Name) -> Result<(), Reason>
         requires { HasPaid (meter_in self.now) }
-        ensures { Does result self.new (erase name self.old) }
+        ensures { DoesAlways result self.new (erase name.now self.old) }
     {
-        if at_hand(&self.saved, &name).is_none() {
-            return Err(Early::Ended(self.unknown(OpenKind::Kept)));
+        if at_hand(&self.saved, name).is_none() {
+            return Err(self.unknown(OpenKind::Kept));
         }
-        remember(&mut self.saved, name, None)?;
+        forget(&mut self.saved, name);
         self.meter.answer();
         Ok(())
     }

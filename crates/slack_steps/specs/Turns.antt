@@ -1,29 +1,32 @@
--- How a turn of a loop ends, and parts that are steps of their own.
-use Rattle.std.specs.Prelude.{◌≡◌, ℕ, zero, suc, Bool, true, false, Result, Ok, Err, ⊤}
-use Rattle.rtio_types.specs.declared.outcome.Exc.TheVariants.{StackOverflow}
+-- Parts of statements: one that says whether what comes next runs, and what is set before a turn or after a sum.
+use Rattle.std.specs.Prelude.{◌≡◌, ℤ, Bool, true, false, Result, Ok, Err, ⊤}
 use Rattle.kern_syntax.specs.declared.statement.Augment.{Augment}
-use Rattle.kern_syntax.specs.Tree.{Bytes}
+use Rattle.kern_syntax.specs.Tree.{Bytes, variable}
 use Rattle.kern_calls.specs.declared.types.ValueType.TheVariants.{Int64}
+use Rattle.kern_calls.specs.Types.{Scope, type_of}
 use Rattle.timeline_sem.specs.Statements.{operator_of}
 use Rattle.slack_meaning.specs.declared.span.Span.{Span}
-use Rattle.slack_meaning.specs.Actions.{State, Completion, Action, normal, raised, give, stop, take_unit, ◌>>=◌, ◌>>◌}
-use Rattle.slack_meaning.specs.Expressions.{operate, write_element}
+use Rattle.slack_meaning.specs.Spans.{exactly}
+use Rattle.slack_meaning.specs.Actions.{number, State, Completion, Action, normal, ◌>>=◌, ◌>>◌}
+use Rattle.slack_meaning.specs.Expressions.{operate, write, write_element}
 use Rattle.slack_state.specs.declared.early.Early.{Early}
 use Rattle.slack_state.specs.Does.{EndsAs}
 
 -- where the answer is true the next part goes on from what is left, where it is false all is done; or the part ends early,
 -- unless memory ran out
-abbrev pub GoesOn : Result Bool Early → (left : State) → Completion ⊤ → (next : Action ⊤) → Type 0
+abbrev pub GoesOn : Result Bool Early → (left : State) → (does : Completion ⊤) → (next : Action ⊤) → Type 0
 GoesOn (Ok true) left does next = does ≡ next left
 GoesOn (Ok false) left does next = does ≡ normal tt left
 GoesOn (Err end) left does next = EndsAs end left does
+
+-- a name is set to a number before a part
+abbrev pub set_then : Bytes → ℤ → Action ⊤ → Action ⊤
+set_then x n body = write x (number (exactly n)) >> body
 
 -- an element becomes what was read from it and what is added
 abbrev pub set_sum : Bytes → (place : Span) → Augment → (held added : Span) → Action ⊤
 set_sum x place op held added = operate (operator_of op) Int64 held added >>= write_element x place
 
--- a call, where so many further functions may be active: it takes a unit, and then raises, or gives how many may be active
--- beside the one that it enters
-abbrev pub enter_call : (room : ℕ) → Action ℕ
-enter_call zero = take_unit >> stop (raised StackOverflow)
-enter_call (suc room) = take_unit >> give room
+-- a name becomes what it held and what is added, wrapped at the width of its type
+abbrev pub hold_sum : Scope → Bytes → Augment → (held added : Span) → Action ⊤
+hold_sum scope x op held added = operate (operator_of op) (type_of scope (variable x)) held added >>= (λ new. write x (number new))

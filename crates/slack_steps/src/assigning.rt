@@ -1,15 +1,16 @@
-// Sums that are assigned, and lists of equal values.
+// Sums that are assigned.
 
-ghost use Rattle.std.specs.Prelude.{◌≡◌, IfOk, replicate};
 ghost use Rattle.slack_state.specs.Does.{Does};
 ghost use Rattle.slack_steps.specs.Turns.{set_sum};
 
-use crate::operating::{operate, operator_of};
+use crate::operating::operate;
 use kern_calls::ValueType;
+use kern_names::{Scope, type_of_name};
 use kern_syntax::Augment;
+use meaning_steps::operator_of;
 use slack_meaning::Span;
-use slack_state::{Early, State};
-use std::alloc::{AllocError, Global};
+use slack_state::{Early, Held, Reason, State};
+use std::alloc::Global;
 
 /// An element becomes what was read from it and what is added.
 pub fn set_sum(
@@ -27,13 +28,23 @@ pub fn set_sum(
     state.set_element(alloc, x, place, new)
 }
 
-/// So many equal values. The only error is want of memory.
-pub fn repeated(alloc: Global, span: Span, length: u64) -> Result<Vec<Span>, AllocError>
-    ensures { IfOk result (λ spans. spans.items ≡ replicate length span) }
+ghost use Rattle.kern_names.specs.ScopeOf.{scope_of};
+ghost use Rattle.slack_state.specs.Does.{DoesAlways};
+ghost use Rattle.slack_steps.specs.Turns.{hold_sum};
+
+/// A name becomes what it held and what is added: a number wraps at the width of the name's type.
+pub fn hold_sum(
+    scope: &Scope<'_>,
+    state: &mut State,
+    x: &[u8],
+    operator: Augment,
+    held: Span,
+    added: Span,
+) -> Result<(), Reason>
+    ensures { DoesAlways result state.new (hold_sum (scope_of scope.now) x.now operator held added state.old) }
 {
-    let mut spans = Vec::new(alloc);
-    for _ in 0..length {
-        spans.push(span)?;
-    }
-    Ok(spans)
+    let kind = type_of_name(scope, x);
+    let new = operate(state, operator_of(operator), kind, held, added)?;
+    state.hold(x, Held::Number(new));
+    Ok(())
 }

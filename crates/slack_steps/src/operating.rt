@@ -1,27 +1,15 @@
 // Operators.
 
-ghost use Rattle.std.specs.Prelude.{◌≡◌};
 ghost use Rattle.slack_meaning.specs.Actions as A;
 ghost use Rattle.slack_meaning.specs.Expressions.{operate, operate_numbers, operate_spans};
 ghost use Rattle.slack_state.specs.Does.{DoesAlways};
-ghost use Rattle.timeline_sem.specs.Statements.{operator_of};
 
 use kern_calls::ValueType;
-use kern_syntax::{Augment, BinaryOperator};
+use kern_syntax::BinaryOperator;
 use meaning_numbers::operated;
 use rtio_types::Exc;
 use slack_meaning::{OpenKind, Span};
 use slack_state::{Reason, State, are_both_numbers, exactly, less, sum};
-
-/// The operator of an augmented assignment.
-pub fn operator_of(operator: Augment) -> BinaryOperator
-    ensures { result ≡ operator_of operator }
-{
-    match operator {
-        Augment::Add => BinaryOperator::Add,
-        Augment::Subtract => BinaryOperator::Subtract,
-    }
-}
 
 // The result of an operator on two numbers, wrapped at the width of its type. A divisor of 0 raises.
 fn operate_numbers(

@@ -8,6 +8,7 @@ ghost use Rattle.timeline_sem.specs.Programs.{meaning_of, outcome_of};
 use kern_names::{Functions, number_functions};
 use kern_syntax::Function;
 use kern_types::Checked;
+use meaning_frames::function_at;
 use meaning_runs::run_function;
 use meaning_state::{Early, Reason, State};
 use rtio_types::{Reply, Request};
@@ -85,15 +86,6 @@ fn run_first(
         Some(function) => run_function(alloc, functions, CALL_ROOM, state, function, args),
         None => Ok(0),
     }
-}
-
-ghost use Rattle.std.specs.Prelude.{slice_get};
-
-// The function at a place of the text, from 0, if there is one.
-fn function_at(functions: &[Function], place: u32) -> Option<&Function>
-    ensures { option_map (λ f. function_of f.now) result ≡ slice_get (tree_of functions.now) place }
-{
-    functions.get(place as usize)
 }
 
 /// What a function of a checked program means, given by its place in the text, from 0: what it asks, where its cursor and

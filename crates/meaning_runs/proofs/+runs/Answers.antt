@@ -10,23 +10,28 @@ use Rattle.kern_syntax.specs.Tree.{FunctionTree, binary, no_more}
 use Rattle.kern_syntax.specs.TreeOf.{expression_of, arguments_of, argument_of, block_of, function_of, handlers_of}
 use Rattle.kern_calls.specs.Types.{function_named, names_of, type_of}
 use Rattle.kern_names.specs.ScopeOf.{program_of}
-use Rattle.meaning_runs.specs.Frames.{calls_in, scope_in}
+use Rattle.meaning_frames.specs.Frames.{scope_in}
+use Rattle.meaning_runs.specs.Frames.{calls_in}
 use Rattle.meaning_state.specs.Does.{Does, EndsAs, reason_of}
 use Rattle.timeline_sem.specs.Actions.{normal, early, give, ◌>>=◌}
 use Rattle.timeline_sem.specs.Expressions.{arguments, expression}
 use Rattle.meaning_steps.specs.Handling.{handler_of}
 use Rattle.meaning_steps.specs.Runnable.{AreRunnable, first_argument}
-use Rattle.meaning_runs.proofs.Arguments.{argument_read, argument_ended, runnable_rest, smaller_rest}
-use Rattle.meaning_runs.proofs.Sizes.{arguments_size, block_size, handlers_size, program_size}
-use Rattle.meaning_runs.proofs.Entered.{call_entered, found_runs, found_smaller, left_function, room_falls, room_left}
-use Rattle.meaning_runs.proofs.Handled.{handled, handled_runs, handled_smaller, unhandled}
-use Rattle.meaning_runs.proofs.Items.{drop_item}
+use Rattle.meaning_frames.proofs.Arguments.{runnable_rest, smaller_rest}
+use Rattle.meaning_runs.proofs.Arguments.{argument_read, argument_ended}
+use Rattle.meaning_frames.proofs.Sizes.{arguments_size, block_size, handlers_size, program_size}
+use Rattle.meaning_frames.proofs.Found.{found_runs, found_smaller, room_falls}
+use Rattle.meaning_runs.proofs.Entered.{call_entered, left_function, room_left}
+use Rattle.meaning_frames.proofs.Handled.{handled_runs, handled_smaller}
+use Rattle.meaning_runs.proofs.Handled.{handled, unhandled}
+use Rattle.meaning_frames.proofs.Items.{drop_item}
 use Rattle.meaning_runs.proofs.Operated.{binary_then, sum_then}
 use Rattle.rtio_types.specs.Integers.{is_true}
 use Rattle.meaning_steps.specs.Turns.{GoesOn, set_then}
 use Rattle.timeline_sem.specs.Statements.{block, for_turns, turn, while_loop, while_turns}
 use Rattle.timeline_sem.specs.Programs.{function_body, function_call, initial_values, optional_body}
-use Rattle.meaning_runs.proofs.Turning.{for_here, next_fits, while_here}
+use Rattle.meaning_frames.proofs.Turning.{next_fits}
+use Rattle.meaning_runs.proofs.Turning.{for_here, while_here}
 use Rattle.meaning_runs.proofs.+runs.Goals as goal
 
 -- left to the prover these would be sought by `search` first, for minutes and in vain

@@ -3,13 +3,14 @@ use Rattle.std.specs.Int.{int_gap}
 use Rattle.kern_syntax.specs.Tree.{no_else, no_more}
 use Rattle.kern_syntax.specs.TreeOf.{argument_of, arguments_of, assign_to, augment_of, block_of, branches_of, elif_of, else_of, expression_of, handlers_of, lines_of, statement_of}
 use Rattle.kern_names.specs.ScopeOf.{program_of}
-use Rattle.meaning_runs.specs.Frames.{calls_in, scope_in}
+use Rattle.meaning_frames.specs.Frames.{scope_in}
+use Rattle.meaning_runs.specs.Frames.{calls_in}
 use Rattle.meaning_steps.specs.Runnable.{AreRunnable}
 use Rattle.meaning_steps.specs.RunnableStatements.{EachRunnable, IsRunnableBlock, IsRunnableOtherwise}
 use Rattle.timeline_sem.specs.Actions.{give, ◌>>=◌}
 use Rattle.timeline_sem.specs.Expressions.{arguments, expression}
 use Rattle.timeline_sem.specs.Statements.{block, for_turns, otherwise, parallel_block, statement, values, while_loop, while_turns}
-use Rattle.meaning_runs.proofs.Sizes.{arguments_size, block_size, expression_size, expressions_size, handlers_size, otherwise_size, optional_size, program_size, statement_size}
+use Rattle.meaning_frames.proofs.Sizes.{arguments_size, block_size, expression_size, expressions_size, handlers_size, otherwise_size, optional_size, program_size, statement_size}
 use Rattle.meaning_runs.proofs.+runs.Given as goal
 
 abbrev pub decreases-expressions::evaluate : goal.decreases-expressions::evaluate

@@ -1,17 +1,19 @@
-use Rattle.std.proofs.Common.{rules, sym, ap, subst, ◌∙◌, ◌-ℤ◌, FitsSigned, to_z, of_z, w64}
+use Rattle.std.proofs.Common.{rules, ◌≡◌, ◌∙◌, ◌-ℤ◌, Some, FitsSigned, w64}
 use Rattle.std.proofs.lemmas.Int.{to_z-of_z}
-use Rattle.slack_meaning.specs.Spans.{span_less}
-use Rattle.slack_state.proofs.Far.{far-least, far-greatest}
+use Rattle.slack_state.proofs.Near.{between, both-near, near_number}
 use Rattle.slack_state.proofs.spans.less.Goals as goal
 
-pub returns-in_err-least : goal.returns-in_err-least
-returns-in_err-least c =
-    let f : FitsSigned w64 c.args.a.least = search rules in
-    let never = c.in_err-least.ensures in
-    c.from_residual.ensures ∙ sym (far-least (span_less c.args.a c.args.number) (λ fits. never (subst (λ z. FitsSigned w64 z) (sym (ap (λ z. z -ℤ to_z w64 (of_z w64 c.args.number)) (to_z-of_z w64 c.args.a.least f) ∙ ap (λ z. c.args.a.least -ℤ z) (to_z-of_z w64 c.args.number c.ranges.number))) fits)))
-
-pub returns-in_err-greatest : goal.returns-in_err-greatest
-returns-in_err-greatest c =
-    let f : FitsSigned w64 c.args.a.greatest = search rules in
-    let never = c.in_err-greatest.ensures in
-    c.from_residual-in_err-greatest.ensures ∙ sym (far-greatest (span_less c.args.a c.args.number) (λ fits. never (subst (λ z. FitsSigned w64 z) (sym (ap (λ z. z -ℤ to_z w64 (of_z w64 c.args.number)) (to_z-of_z w64 c.args.a.greatest f) ∙ ap (λ z. c.args.a.greatest -ℤ z) (to_z-of_z w64 c.args.number c.ranges.number))) fits)))
+pub returns : goal.returns
+returns c =
+    let a = c.args.a in
+    let n = c.args.number in
+    let l = c.in_ok-least.least in
+    let g = c.in_ok-greatest.greatest in
+    let first : FitsSigned w64 a.least = search rules in
+    let second : FitsSigned w64 a.greatest = search rules in
+    let fits-l : FitsSigned w64 l = search rules in
+    let fits-g : FitsSigned w64 g = search rules in
+    let low : Some l ≡ near_number (a.least -ℤ n) = c.in_ok-least.ensures ∙ (λ i. near_number (to_z-of_z w64 a.least first i -ℤ to_z-of_z w64 n c.ranges.number i)) in
+    let high : Some g ≡ near_number (a.greatest -ℤ n) = c.in_ok-greatest.ensures ∙ (λ i. near_number (to_z-of_z w64 a.greatest second i -ℤ to_z-of_z w64 n c.ranges.number i)) in
+    (λ i. Some (between (to_z-of_z w64 l fits-l i) (to_z-of_z w64 g fits-g i)))
+    ∙ both-near (a.least -ℤ n) (a.greatest -ℤ n) l g low high

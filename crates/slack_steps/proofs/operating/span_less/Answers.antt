@@ -1,7 +1,7 @@
 use Rattle.std.proofs.Common.{ap, sym, ◌∙◌, w64, Some, None, if◌then◌else◌}
 use Rattle.std.proofs.lemmas.Int.{to_z-of_z}
 use Rattle.slack_meaning.specs.Spans.{is_near, span_less}
-use Rattle.slack_steps.proofs.Results.{near_some}
+use Rattle.slack_state.proofs.Near.{near_some}
 use Rattle.slack_steps.proofs.operating.span_less.Goals as goal
 
 pub returns-in-Some : goal.returns-in-Some

@@ -5,7 +5,8 @@ use Rattle.kern_syntax.specs.TreeOf.{tree_of}
 use Rattle.meaning_runnable.proofs.Functions.{typed_can_run}
 use Rattle.meaning_steps.specs.RunnableStatements.{AreRunnableFunctions}
 use Rattle.timeline_sem.specs.Programs.{Meaning, meaning, opening}
-use Rattle.timeline_meaning.proofs.First.{first_runs, gives_meaning}
+use Rattle.meaning_frames.proofs.First.{first_runs}
+use Rattle.timeline_meaning.proofs.First.{gives_meaning}
 use Rattle.timeline_meaning.proofs.whole.meaning.Goals as goal
 
 pub invariant_of-program : goal.invariant_of-program

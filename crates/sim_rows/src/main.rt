@@ -1,0 +1,30 @@
+//! Runs the program on tables of worked rows, and writes each row that comes out otherwise.
+//!
+//! `table_rows` says how a table is read. The lines of a row are here
+//!
+//!     | LINE         a line of the source's text; `|- LINE` has no line feed behind it, and `|x 4b 49` are bytes
+//!     * N | LINE     the same, N times
+//!     ~ source N     the source's call N fails; `~ out N` and `~ err N` for the sinks
+//!     hide WORD..    lines of out that begin with one of these words and a blank aren't shown
+//!     $ WORDS        the program is run; in `$ WORDS | WORDS` the second run reads what the first one wrote
+//!     $ (no memory)  it is started where there is no memory for its words
+//!     ? WORDS        the same, and the answer isn't shown, but the next may be the same
+//!
+//! Behind `$` stands the answer: lines of out behind `>`, lines of err behind `!` (`>-` and `>x` as above), and `= STATUS`; or
+//! only `= STATUS, the same`, where out, err and status are those of the run before. Each other line is a remark.
+#![tactic(auto)]
+
+mod running;
+
+use crate::running::Runs;
+use std::{env, fs, io};
+use table_rows::walk_table;
+
+fn main(rt: HostRuntime) -> io::Result<()> {
+    for path in env::args(&rt)?.skip(1) {
+        let table = fs::read_to_string(&rt, path.as_str())?;
+        let report = walk_table::<Runs>(rt.alloc(), path.as_str(), table.as_str())?;
+        print!(rt; "{report}")?;
+    }
+    Ok(())
+}

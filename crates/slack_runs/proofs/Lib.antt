@@ -1,0 +1,5 @@
+mod Arguments
+mod Entered
+mod Handled
+mod Operated
+mod Turning
