@@ -17,11 +17,12 @@ status 1 where something is otherwise than written, and says where. What it trie
 - Each kernel in examples/ gives its report under the options in its `.words`, and stands with all three in a row of
   sim_rows. Where it has `.links`, each line "$ sat WORDS" there gives the lines below it. Each session there that has a
   report gives it.
-- Each path in backquotes is there, in RECIPES.md below crates/ too, but for those with NAME, any crate. ARCHITECTURE.md has the picture that sizes.py prints,
-  names each file of definitions or its folder, and lists the crates of crates.txt in its order, each with the crates that
-  it stands on and clauses that it has. Each word in backquotes in CONTRACTS.md stands in the code of the crate that its
-  heading names, and in the map of BELIEVING.md in the files beside it. The numbers of definitions and lines there are those
-  of definitions.py, to a tenth. The edits that WRONG_BODIES.md names stand in the gate.
+- Each path in backquotes is there, in RECIPES.md below crates/ too, but for those with NAME, any crate. ARCHITECTURE.md has
+  the picture that sizes.py prints, names each file of definitions or its folder, and lists the crates of crates.txt in
+  its order, each with the crates that it stands on and clauses that it has. Each word in backquotes in CONTRACTS.md
+  stands in the code of the crate that its heading names, and in the map of BELIEVING.md in the files beside it. The
+  numbers of definitions and lines there are those of definitions.py, to a tenth. The edits that WRONG_BODIES.md names
+  stand in the gate.
 - The README has at most 12 KB, no cell of a table more than forty words.
 - Each script of docs/ runs. What needs a program that isn't installed is told as not tried, at the end.
 """
