@@ -26,9 +26,7 @@ fn write_verdict(text: &mut String, verdict: Verdict) -> Result<(), AllocError>
     ensures { OnOk result (string_bytes text.new ≡ string_bytes text.old ++ slack_line verdict) }
 {
     match verdict {
-        Verdict::Yes {
-            outs,
-        } => writeln!(text, "slack yes {outs}"),
+        Verdict::Yes { outs } => writeln!(text, "slack yes {outs}"),
         Verdict::No {
             number,
             event,
@@ -38,10 +36,7 @@ fn write_verdict(text: &mut String, verdict: Verdict) -> Result<(), AllocError>
             let channel = event.channel;
             writeln!(text, "slack no {number} {stamp} {channel} {limit}")
         }
-        Verdict::Open {
-            requests,
-            why,
-        } => {
+        Verdict::Open { requests, why } => {
             let why = why_text(why);
             writeln!(text, "slack open {requests} {why}")
         }

@@ -34,13 +34,7 @@ fn verdict_where(stopped: Stopped) -> Verdict
             event,
             limit,
         },
-        Stopped::Unknown {
-            requests,
-            why,
-        } => Verdict::Open {
-            requests,
-            why,
-        },
+        Stopped::Unknown { requests, why } => Verdict::Open { requests, why },
     }
 }
 
@@ -50,9 +44,7 @@ fn verdict_at(reason: Reason, outs: u64) -> Verdict
 {
     match reason {
         Reason::Decided(stopped) => verdict_where(stopped),
-        _ => Verdict::Yes {
-            outs,
-        },
+        _ => Verdict::Yes { outs },
     }
 }
 
@@ -62,9 +54,7 @@ fn verdict_of(ran: Result<Span, Early>, outs: u64) -> Result<Verdict, AllocError
         IfOk result (λ verdict. verdict_of m ≡ verdict) }
 {
     match ran {
-        Ok(_) => Ok(Verdict::Yes {
-            outs,
-        }),
+        Ok(_) => Ok(Verdict::Yes { outs }),
         Err(Early::Ended(reason)) => Ok(verdict_at(reason, outs)),
         Err(Early::Memory) => Err(AllocError),
     }
@@ -103,12 +93,7 @@ ghost use Rattle.slack_check.specs.Mains.{MainNeverUnderflows, verdict_of_main};
 /// `docs/SLACK.md`, which are this project's own. A yes holds of every core: however lawful cores of that cost and at least that
 /// depth answer, no output of the kernel underflows in a first session that begins at cursor 0. The only error is want of
 /// memory.
-pub fn slack(
-    alloc: Global,
-    checked: &Checked,
-    cost: u64,
-    depth: u32,
-) -> Result<Verdict, AllocError>
+pub fn slack(alloc: Global, checked: &Checked, cost: u64, depth: u32) -> Result<Verdict, AllocError>
     requires cost { cost ≤ 1000000 }
     requires depth { (1 ≤ depth) × (depth ≤ 1024) }
     // The verdict is that of the run without a core.

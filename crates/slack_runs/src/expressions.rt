@@ -12,8 +12,8 @@ ghost use Rattle.slack_meaning.specs.Expressions.{arguments, expression};
 use crate::functions::perform_call;
 use kern_names::type_of;
 use kern_syntax::{Argument, Expr};
-use meaning_numbers::{changed, compared};
 use meaning_frames::Frame;
+use meaning_numbers::{changed, compared};
 use meaning_steps::{is_true, number_of};
 use slack_meaning::Span;
 use slack_state::{Early, State, exactly};
@@ -44,11 +44,7 @@ pub fn evaluate(
         Expr::Unary(operator, operand) => {
             let a = evaluate(alloc, frame, state, operand)?;
             let number = state.number(a)?;
-            Ok(exactly(changed(
-                *operator,
-                type_of(&frame.scope, operand),
-                number,
-            )))
+            Ok(exactly(changed(*operator, type_of(&frame.scope, operand), number)))
         }
         Expr::Binary(operator, left, right) => {
             let a = evaluate(alloc, frame, state, left)?;
