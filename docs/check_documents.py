@@ -38,7 +38,7 @@ import sizes
 ROOT = pathlib.Path(__file__).resolve().parent.parent
 FENCE = re.compile(r"^```(\w*) ?(.*)\n((?:.*\n)*?)```$", re.M)
 GIVES = re.compile(r"`([^`\n]+)` (?:gives|is told as) `((?:lex|syntax|type|code) [^`\n]+)`")
-COMMAND = re.compile(r"^    ((?:bin/artiq_sim (?:sim|check|compile|exec|gen|dump|vcd|sat)|bin/artiq_lab|head|python3 docs/(?!check_documents))[^#\n]*)", re.M)
+COMMAND = re.compile(r"^    ((?:bin/artiq_sim (?:sim|check|compile|exec|gen|slack|dump|vcd|sat)|bin/artiq_lab|head|python3 docs/(?!check_documents))[^#\n]*)", re.M)
 COUNTED = re.compile(r"\| `python3 docs/definitions\.py ?([^`]*)` \| some ([\d,]+) \| ([\d,]+) \|$", re.M)
 ROW = re.compile(r"^\| (\w+) \| (.*) \| ?([\w, ]*?) ?\|$", re.M)
 # The scripts of docs/ with their words, and the program that each needs beside the built ones.
