@@ -19,7 +19,7 @@ import sys
 import time
 
 # The budget in seconds: of a crate, and of a program's top crate.
-BUDGET, TOP_BUDGET, TOP_CRATES = 540, 1080, ("sim_program", "lab_program")
+BUDGET, TOP_BUDGET, TOP_CRATES = 420, 840, ("sim_program", "lab_program")
 KINDS = ("proof", "tests", "edits")
 TICK = os.sysconf("SC_CLK_TCK")
 

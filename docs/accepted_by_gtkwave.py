@@ -3,8 +3,9 @@
 
     python3 docs/accepted_by_gtkwave.py [--program PATH]
 
-Run by hand, where GTKWave's `vcd2fst` is installed. Each kernel of examples/ is run by `dump` with the words that stand beside
-it, `vcd` makes its waveform, and the converter has to accept it. Ends with 1 where one is refused.
+Run where GTKWave's `vcd2fst` is installed; `docs/check_documents.py` runs it there. Each kernel of examples/ is run by `dump`
+with the words that stand beside it, `vcd` makes its waveform, and the converter has to accept it. Ends with 1 where one is
+refused.
 """
 
 import pathlib
@@ -13,7 +14,7 @@ import subprocess
 import sys
 import tempfile
 
-from check_documents import ROOT, program_named
+from check_documents import ROOT, programs_named
 
 
 def words_of(example):
@@ -37,7 +38,7 @@ def is_accepted(program, example, folder):
 
 
 def main():
-    program = program_named(__doc__)
+    program = programs_named(__doc__)["artiq_sim"]
     if shutil.which("vcd2fst") is None:
         sys.exit("vcd2fst of GTKWave isn't installed")
     examples, refused = sorted((ROOT / "examples").glob("*.py")), []

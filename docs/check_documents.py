@@ -7,8 +7,9 @@ Without PATH it runs bin/artiq_sim and bin/artiq_lab, which prove and build the 
 status 1 where something is otherwise than written, and says where. What it tries:
 
 - A block "python NAME.py" is a file for the commands behind it. In a block "console" each line behind "$ " is run by bash,
-  in a folder with these files, bin/ and examples/, and prints what stands below it. An indented line that begins with
-  bin/artiq_sim, bin/artiq_lab, head, or python3 and another script of docs/ is run there too, and ends with status 0.
+  with the lines behind "> " that follow it, in a folder with these files, bin/ and examples/, and prints what stands below
+  it. An indented line that begins with bin/artiq_sim, bin/artiq_lab, head, or python3 and another script of docs/ is run
+  there too, and ends with status 0.
 - A block "python COMMAND STATUS" is a text to which the command (sim or check) answers this status. A block "text" behind
   it is what that writes: on standard output, at status 1 on standard error.
 - In a table with the columns line, text and mended, the text is refused with the line, and the mended one isn't refused.
@@ -16,21 +17,40 @@ status 1 where something is otherwise than written, and says where. What it trie
 - Each kernel in examples/ gives its report under the options in its `.words`, and stands with all three in a row of
   sim_rows. Where it has `.links`, each line "$ sat WORDS" there gives the lines below it. Each session there that has a
   report gives it.
-- Each path in backquotes is there; ARCHITECTURE.md names each file of definitions or its folder, and, as the README, each
-  crate; each word in backquotes in CONTRACTS.md stands in the code of the crate that its heading names; the edits that
-  WRONG_BODIES.md names stand in the gate; and the README has at most 12 KB, no cell of a table more than forty words.
+- Each path in backquotes is there, in RECIPES.md below crates/ too, but for those with NAME, any crate. ARCHITECTURE.md has
+  the picture that sizes.py prints, names each file of definitions or its folder, and lists the crates of crates.txt in
+  its order, each with the crates that it stands on and clauses that it has. Each word in backquotes in CONTRACTS.md
+  stands in the code of the crate that its heading names, and in the map of BELIEVING.md in the files beside it. The
+  numbers of definitions and lines there are those of definitions.py, to a tenth. The edits that WRONG_BODIES.md names
+  stand in the gate.
+- The README has at most 12 KB, no cell of a table more than forty words.
+- Each script of docs/ runs. What needs a program that isn't installed is told as not tried, at the end.
 """
 import pathlib
 import re
+import shutil
 import subprocess
 import sys
 import tempfile
 
+import sizes
+
 ROOT = pathlib.Path(__file__).resolve().parent.parent
 FENCE = re.compile(r"^```(\w*) ?(.*)\n((?:.*\n)*?)```$", re.M)
 GIVES = re.compile(r"`([^`\n]+)` (?:gives|is told as) `((?:lex|syntax|type|code) [^`\n]+)`")
-COMMAND = re.compile(r"^    ((?:bin/artiq_sim (?:sim|check|compile|exec|gen|dump|vcd|sat)|bin/artiq_lab|head|python3 docs/(?!check_documents))[^#\n]*)", re.M)
-PATH = re.compile(r"`((?:docs|crates|examples|bench|bin)/[\w./-]+)`")
+COMMAND = re.compile(r"^    ((?:bin/artiq_sim (?:sim|check|compile|exec|gen|slack|dump|vcd|sat)|bin/artiq_lab|head|python3 docs/(?!check_documents))[^#\n]*)", re.M)
+COUNTED = re.compile(r"\| `python3 docs/definitions\.py ?([^`]*)` \| some ([\d,]+) \| ([\d,]+) \|$", re.M)
+ROW = re.compile(r"^\| (\w+) \| (.*) \| ?([\w, ]*?) ?\|$", re.M)
+# The scripts of docs/ with their words, and the program that each needs beside the built ones.
+SCRIPTS = {
+    "accepted_by_gtkwave.py": (["--program", "bin/artiq_sim"], "vcd2fst"),
+    "definitions.py": ([], None),
+    "sizes.py": (["--house"], None),
+    "what_stands_on.py": (["rtio_core"], None),
+}
+# Paths, but for those of any crate, NAME.
+BELOW_CRATES = re.compile(r"`((?!docs/|bench/|examples/|completions/)(?![^`]*NAME)\w+/[\w./-]+)`")
+PATH = re.compile(r"`((?![^`]*NAME)(?:docs|crates|examples|bench|bin|launch|completions)/[\w./-]+)`")
 
 
 class Checker:
@@ -38,6 +58,7 @@ class Checker:
         self.folder = folder
         self.tried = 0
         self.wrong = 0
+        self.not_tried = []
         (folder / "bin").mkdir()
         for name, program in programs.items():
             launcher = folder / "bin" / name
@@ -65,6 +86,9 @@ class Checker:
         status = 0
         for part in re.split(r"^\$ ", block, flags=re.M)[1:]:
             command, _, wanted = part.partition("\n")
+            while wanted.startswith("> "):
+                line, _, wanted = wanted[2:].partition("\n")
+                command += "\n" + line
             run = subprocess.run(
                 ["bash", "-c", f"(exit {status})\n{command}"],
                 cwd=self.folder,
@@ -117,6 +141,9 @@ class Checker:
             self.refused(where, text, line)
         for name in PATH.findall(prose):
             self.expect(where, name, (ROOT / name).exists(), True)
+        if path.name == "RECIPES.md":
+            for name in BELOW_CRATES.findall(prose):
+                self.expect(where, name, (ROOT / "crates" / name).exists(), True)
 
     def examples(self):
         rows = (ROOT / "crates/sim_rows/data/examples.rows").read_text()
@@ -146,7 +173,19 @@ class Checker:
                 run = subprocess.run([self.folder / "bin" / "artiq_lab"], input=session.read_bytes(), capture_output=True)
                 self.expect(session.name, "its report", (run.stdout.decode(), run.stderr.decode()), (report.read_text(), ""))
 
-    def sizes(self):
+    def scripts(self):
+        for path in sorted((ROOT / "docs").glob("*.py")):
+            if path.name == pathlib.Path(__file__).name:
+                continue
+            self.expect("docs/check_documents.py", f"runs {path.name}", path.name in SCRIPTS, True)
+            words, needed = SCRIPTS.get(path.name, ([], None))
+            if needed and shutil.which(needed) is None:
+                self.not_tried.append(f"docs/{path.name}: {needed} isn't installed")
+            else:
+                run = subprocess.run(["python3", path, *words], cwd=self.folder, capture_output=True)
+                self.expect(f"docs/{path.name}", f"{words} {run.stderr.decode()}", run.returncode, 0)
+
+    def readme(self):
         readme = (ROOT / "README.md").read_text()
         self.expect("README.md", "at most 12 KB", len(readme.encode()) <= 12288, True)
         for line in readme.splitlines():
@@ -160,24 +199,60 @@ class Checker:
             self.expect("docs/WRONG_BODIES.md", f"{crate}/{edit}", stands, True)
 
     def names(self):
-        lines = (ROOT / "crates.txt").read_text().splitlines()
-        crates = [line.split(":")[0].split()[0] for line in lines if ":" in line and not line.startswith("#")]
+        crates = sizes.crates()
         architecture = (ROOT / "docs/ARCHITECTURE.md").read_text()
-        readme = (ROOT / "README.md").read_text()
-        for crate in crates:
-            for page, text in (("README.md", readme), ("docs/ARCHITECTURE.md", architecture)):
-                self.expect(page, f"names {crate}", re.search(rf"\b{crate}\b", text) is not None, True)
+        self.house(crates, architecture)
         for file in sorted(ROOT.glob("crates/*/specs/*.antt")):
             crate = file.parent.parent.name
             named = f"`{crate}/specs/`" in architecture or file.name in architecture or file.name == "Lib.antt"
             self.expect("docs/ARCHITECTURE.md", f"names {crate}/specs/{file.name}", named, True)
         for section in re.split(r"^##", (ROOT / "docs/CONTRACTS.md").read_text(), flags=re.M):
             heading = re.findall(r"\w+", section.partition("\n")[0]) if section.startswith("#") else []
-            files = [f for name in heading for f in (ROOT / "crates" / name).rglob("*.*t*") if f.suffix in (".rt", ".antt")]
-            known = set(re.findall(r"\w+", " ".join(f.read_text() for f in files))) | set(crates)
-            for quoted in re.findall(r"`([^`\n]+)`", section) if files else []:
-                words = [] if "/" in quoted else re.findall(r"[A-Za-z_]\w*", quoted)
-                self.expect("docs/CONTRACTS.md", f"{heading}: {quoted}", [w for w in words if w not in known], [])
+            folders = [ROOT / "crates" / name for name in heading if (ROOT / "crates" / name).is_dir()]
+            if folders:
+                self.words(f"docs/CONTRACTS.md: {heading}", section, words_in(folders) | set(crates))
+
+    def words(self, where, text, known):
+        """Each word in backquotes that is no path is one of those known."""
+        for quoted in re.findall(r"`([^`\n]+)`", text):
+            words = [] if "/" in quoted else re.findall(r"[A-Za-z_]\w*", quoted)
+            self.expect(where, quoted, [word for word in words if word not in known], [])
+
+    def house(self, crates, architecture):
+        """The picture and the list of crates in ARCHITECTURE.md."""
+        picture = "\n".join(line.rstrip() for line in sizes.house(crates, False))
+        self.expect("docs/ARCHITECTURE.md", "the picture that sizes.py --plain prints", picture in architecture, True)
+        listed = architecture.partition("## All crates")[2].partition("\n## ")[0]
+        rows = [row for row in ROW.findall(listed) if row[0] != "crate"]
+        self.expect("docs/ARCHITECTURE.md", "lists the crates", [row[0] for row in rows], list(crates))
+        for name, said, below in rows:
+            if name in crates:
+                nearest = sizes.nearest(crates, name)
+                self.expect("docs/ARCHITECTURE.md", f"what {name} stands on", sorted(re.findall(r"\w+", below)), sorted(nearest))
+                self.words(f"docs/ARCHITECTURE.md: {name}", said, words_in([ROOT / "crates" / name]) | set(crates))
+
+    def promises(self):
+        """The numbers and the map in BELIEVING.md."""
+        page = (ROOT / "docs/BELIEVING.md").read_text()
+        for words, definitions, lines in COUNTED.findall(page):
+            run = subprocess.run(["python3", ROOT / "docs/definitions.py", "--sums", *words.split()], capture_output=True, text=True)
+            printed = re.match(r"(\d+) lines, (\d+) definitions", run.stdout)
+            for said, found in zip((lines, definitions), printed.groups() if printed else ("0", "0")):
+                number = int(said.replace(",", ""))
+                self.expect("docs/BELIEVING.md", f"{words}: {said}, and {found}", abs(number - int(found)) * 10 <= number, True)
+        for line in page.partition("## Where each promise stands")[2].partition("\n## ")[0].splitlines():
+            cells = line.split("|")
+            for name in re.findall(r"`([^`]+\.rt)`", cells[3]) if len(cells) == 5 else []:
+                self.expect("docs/BELIEVING.md", name, (ROOT / "crates" / name).exists(), True)
+            files = [ROOT / "crates" / name for name in re.findall(r"`([^`]+\.rt)`", cells[3])] if len(cells) == 5 else []
+            if files and all(file.exists() for file in files):
+                self.words(f"docs/BELIEVING.md: {cells[1]}", cells[2], words_in(files))
+
+
+def words_in(places):
+    """The words of some files, or of all code, definitions and proofs in some folders."""
+    files = [file for place in places for file in ([place] if place.is_file() else place.rglob("*.*t*"))]
+    return {word for file in files if file.suffix in (".rt", ".antt") for word in re.findall(r"\w+", file.read_text())}
 
 
 def programs_named(usage):
@@ -204,9 +279,13 @@ def main():
         checker.examples()
         checker.links()
         checker.sessions()
-        checker.sizes()
+        checker.readme()
         checker.edits()
         checker.names()
+        checker.promises()
+        checker.scripts()
+    for line in checker.not_tried:
+        print(f"not tried: {line}")
     print(f"{checker.tried} tried, {checker.wrong} otherwise than written")
     sys.exit(1 if checker.wrong else 0)
 

@@ -65,8 +65,8 @@ fn numbers_are_read_in_any_order(rt: HostRuntime) {
     }
 }
 
-// Commands, and what each is: its number if it has one, and whether it asks for the recordings that are kept.
-const COMMANDS: [(&str, &str, u64, bool); 13] = [
+// Commands, and what each is: its number or cost if it has one, and whether it asks for the recordings that are kept.
+const COMMANDS: [(&str, &str, u64, bool); 17] = [
     ("sim", "sim", 0, false),
     ("sim --dma lines", "sim", 0, true),
     ("exec", "exec", 0, false),
@@ -90,6 +90,10 @@ const COMMANDS: [(&str, &str, u64, bool); 13] = [
         false,
     ),
     ("vcd", "vcd", 0, false),
+    ("sat", "sat", 0, false),
+    ("sat --link ttsdga --depth 2", "sat", 0, false),
+    ("slack", "slack", 0, false),
+    ("slack --depth 1 --cost=800", "slack", 800, false),
 ];
 
 #[test]
@@ -107,6 +111,8 @@ fn each_command_is_asked_by_its_name(rt: HostRuntime) {
             Asked::Gen { number } => ("gen", number, false),
             Asked::Dump { .. } => ("dump", 0, false),
             Asked::Vcd => ("vcd", 0, false),
+            Asked::Sat { .. } => ("sat", 0, false),
+            Asked::Slack { cost, .. } => ("slack", cost, false),
         };
         assert!(rt; have == (name, number, lines), "{line}");
     }
