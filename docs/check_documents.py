@@ -15,7 +15,7 @@ status 1 where something is otherwise than written, and says where. What it trie
 - In a table with the columns line, text and mended, the text is refused with the line, and the mended one isn't refused.
 - Where a sentence says that a text in backquotes gives, or is told as, a line in backquotes, the text is refused so.
 - Each kernel in examples/ gives its report under the options in its `.words`, and stands with all three in a row of
-  sim_rows. Where it has `.links`, each line "$ sat WORDS" there gives the lines below it. Each session there that has a
+  sim_rows. Where it has `.answers`, each line "$ WORDS" there gives the lines below it. Each session there that has a
   report gives it.
 - Each path in backquotes is there, in RECIPES.md below crates/ too, but for those with NAME, any crate. ARCHITECTURE.md has
   the picture that sizes.py prints, names each file of definitions or its folder, and lists the crates of crates.txt in
@@ -158,13 +158,13 @@ class Checker:
             row = question + " ".join(["$ sim", *options]) + "\n" + answer
             self.expect(example.name, "its row", row in rows, True)
 
-    def links(self):
-        for links in sorted((ROOT / "examples").glob("*.links")):
-            text = links.with_suffix(".py").read_text()
-            for part in re.split(r"^\$ ", links.read_text(), flags=re.M)[1:]:
+    def answers(self):
+        for answers in sorted((ROOT / "examples").glob("*.answers")):
+            text = answers.with_suffix(".py").read_text()
+            for part in re.split(r"^\$ ", answers.read_text(), flags=re.M)[1:]:
                 words, _, lines = part.partition("\n")
                 command, *options = words.split()
-                self.expect(links.name, words, self.program(command, text, options), (0, lines, ""))
+                self.expect(answers.name, words, self.program(command, text, options), (0, lines, ""))
 
     def sessions(self):
         for report in sorted((ROOT / "examples").glob("*.report")):
@@ -277,7 +277,7 @@ def main():
         for path in [ROOT / "README.md", ROOT / "examples/README.md", *sorted((ROOT / "docs").glob("*.md"))]:
             checker.page(path)
         checker.examples()
-        checker.links()
+        checker.answers()
         checker.sessions()
         checker.readme()
         checker.edits()
