@@ -6,9 +6,8 @@ crates/satellite_bench built (rt run in its folder)."""
 import os
 import subprocess
 import sys
-import tempfile
 
-from timing import PROGRAM, ROOT, SIM, best_time, processor_time
+from timing import PROGRAM, ROOT, SIM, best_times, processor_time
 
 ROUNDS_PROGRAM = os.path.join(ROOT, "crates", "satellite_bench", "out", "satellite_bench")
 CYCLES = 10_000_000
@@ -44,11 +43,7 @@ def main():
     in_time = sum(1 for line in lines if line.startswith("sat ") and " lane " in line)
     if in_time != sum(1 for line in report if line.startswith("out ")) or lines[-1] != report[-1]:
         sys.exit(f"{in_time} events in time, {lines[-1]}, but {report[-1]} is expected")
-    with tempfile.TemporaryDirectory() as folder:
-        path = os.path.join(folder, "text")
-        with open(path, "wb") as file:
-            file.write(kernel)
-        sim, sat = best_time([PROGRAM, "sim"], path), best_time([PROGRAM, "sat"], path)
+    sim, sat = best_times(["sim", "sat"], kernel)
     print(f"{in_time} outputs: sim {sim:.1f} ms, sat {sat:.1f} ms, {sat / sim:.2f} times sim")
 
 

@@ -4,10 +4,9 @@ arithmetic. In milliseconds, the best of some runs, and how many times `sim`'s t
 
 import os
 import subprocess
-import tempfile
 
 from kernels import ARITHMETIC
-from timing import PROGRAM, ROOT, SIM, best_time
+from timing import PROGRAM, ROOT, SIM, best_times
 
 NUMBER = 1
 
@@ -22,11 +21,7 @@ def kernels():
 
 def main():
     for name, text in kernels():
-        with tempfile.TemporaryDirectory() as folder:
-            path = os.path.join(folder, "text")
-            with open(path, "wb") as file:
-                file.write(text)
-            sim, slack = best_time([PROGRAM, "sim"], path), best_time([PROGRAM, "slack"], path)
+        sim, slack = best_times(["sim", "slack"], text)
         print(f"{name:12} sim {sim:8.1f} ms   slack {slack:8.1f} ms   {slack / sim:5.2f} times sim")
 
 

@@ -34,6 +34,15 @@ def best_time(argv, path, status=0):
     return best * 1000
 
 
+def best_times(commands, text):
+    """The best times of the program under each of some commands, on a text of bytes, in milliseconds."""
+    with tempfile.TemporaryDirectory() as folder:
+        path = os.path.join(folder, "text")
+        with open(path, "wb") as file:
+            file.write(text)
+        return [best_time([PROGRAM, command], path) for command in commands]
+
+
 def memory_needed(argv, path, status=0):
     """The least address space in MB, code and libraries included, in which a run on a file succeeds."""
     for limit in range(1, 128):
