@@ -146,7 +146,7 @@ class Checker:
                 self.expect(where, name, (ROOT / "crates" / name).exists(), True)
 
     def examples(self):
-        rows = (ROOT / "crates/sim_rows/data/examples.rows").read_text()
+        rows = "".join(table.read_text() for table in sorted((ROOT / "crates/sim_rows/data").glob("*.rows")))
         for example in sorted((ROOT / "examples").glob("*.py")):
             report = example.with_suffix(".report").read_text()
             words = example.with_suffix(".words")
