@@ -1,5 +1,6 @@
 -- The body of a function: what surrounds it, how its frame begins, and what its code ends with.
-use Rattle.std.specs.Prelude.{◌≡◌, ℕ, ◌+◌, ◌-◌, List, [], ◌∷◌, ◌++◌, length, replicate, ℤ, pos, Bool, true, false, None, ⊤}
+use Rattle.std.specs.Prelude.{◌≡◌, ℕ, ◌+◌, ◌-◌, List, [], ◌∷◌, ◌++◌, length}
+use Rattle.std.specs.Prelude.{replicate, ℤ, pos, Bool, true, false, None, ⊤}
 use Rattle.kern_calls.specs.Types.{Names}
 use Rattle.timeline_sem.specs.Actions.{Action}
 use Rattle.timeline_sem.specs.Programs.{initial_values, leave_function}
@@ -14,7 +15,8 @@ abbrev pub body_of : (names : Names) → (room limit : ℕ) → (outside value :
 body_of names room limit outside value =
     record { names = names; room = room; limit = limit; temporaries = []; handlers = 0; outside = outside; may_return = true; value = value; loop = None }
 
--- a function's frame begins with its arguments in its first slots, and 0 in the others: that is what its names are at first
+-- a function's frame begins with its arguments in its first
+-- slots, and 0 in the others: that is what its names are at first
 pub record Enters (names : Names) (g : CodeFunction) (limit : ℕ) (args : List ℤ) : Type 0 where
   pub params : g.params ≡ length args
   pub limited : g.slots ≡ slots_of_names names + limit

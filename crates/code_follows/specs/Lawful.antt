@@ -25,7 +25,8 @@ abbrev pub ran_as : Meaning → ℕ → Ran
 ran_as meant count =
     record { requests = meant.requests; outcome = machine_end meant.outcome; cursor = meant.cursor; units = meant.units; count = count }
 
--- what a run of a function begins with, where it is lawful: its arguments, the cursor, and replies that fit their requests
+-- what a run of a function begins with, where it is lawful: its
+-- arguments, the cursor, and replies that fit their requests
 pub record IsLawfulStart (program : ProgramTree) (f : FunctionTree) (function : ℕ) (args : List ℤ) (cursor : ℤ) (units : ℕ) (replies : List Reply) : Type 0 where
   pub found : slice_get program function ≡ Some f
   pub arguments : ArgumentsFit f.parameters args

@@ -15,8 +15,8 @@ use Rattle.code_follows.specs.Lawful.{RunsAsMeant}
 use Rattle.code_follows.specs.Parts.{Follows, Stand}
 use Rattle.code_follows.specs.Stands.{Local, holding, Setting, Fits64, AllNumbersFit, result_operands}
 
--- where the code of a part that gives a number stands before that of another, which goes by that number, the whole does what
--- both do, with all their early ends
+-- where the code of a part that gives a number stands before that of another, which
+-- goes by that number, the whole does what both do, with all their early ends
 abbrev pub PartsFollowOneAnother : List Reply → Code → Type 0
 PartsFollowOneAnother given code =
     (most : ℕ) (setting : Setting) (first mid past : ℕ) (inputs : Local) (results results' : ℤ → Local) (m : Action ℤ) (f : ℤ → Action ℤ)
@@ -50,5 +50,7 @@ BodiesRunAsMeant given code =
     → Fits64 cursor
     → AllNumbersFit given
     → RepliesFit (meaning program function args cursor units given).requests given
-    → Follows given code ⊤ units (body_of (names_of program f) call_room limit true value) g.first past (holding []) (λ v. ⊤) (λ v. holding []) (block (record { program = program; names = names_of program f }) (function_call program call_room) f.body)
+    → Follows given code ⊤ units (body_of (names_of program f) call_room limit true value) g.first past
+    (holding []) (λ v. ⊤) (λ v. holding [])
+    (block (record { program = program; names = names_of program f }) (function_call program call_room) f.body)
     → RunsAsMeant program code function args cursor units given

@@ -21,9 +21,11 @@ pub record Moved (s s' : State) : Type 0 where
   pub units : s'.units ≤ s.units
   pub asked : (own : List Request) × (s'.asked ≡ s.asked ++ own)
 
--- from each machine at the part's first place that stands for a state, with what the part takes, the machine does what the part does: where a
--- premise holds, so many units are left at most, and where each reply given fits the request that gets it
-pub record Follows (given : List Reply) (code : Code) {A : Type 0} (premise : Type 0) (most : ℕ) (setting : Setting) (first past : ℕ) (inputs : Local) (good : A → Type 0) (results : A → Local) (action : Action A) : Type 0 where
+-- from each machine at the part's first place that stands for a state, with what the
+-- part takes, the machine does what the part does: where a premise holds, so many
+-- units are left at most, and where each reply given fits the request that gets it
+pub record Follows (given : List Reply) (code : Code) {A : Type 0} (premise : Type 0) (most : ℕ) (setting : Setting)
+    (first past : ℕ) (inputs : Local) (good : A → Type 0) (results : A → Local) (action : Action A) : Type 0 where
   pub moves : (s : State) → Moved s (final (action s))
   pub follows : (around : Around) (s : State) (free : List ℤ) (count : ℕ)
       → premise

@@ -1,5 +1,6 @@
 -- How a state of the machine stands for a state of the meaning, and where the code of a part leads.
-use Rattle.std.specs.Prelude.{◌≡◌, ℕ, ◌+◌, ◌≤◌, List, [], ◌∷◌, ◌++◌, length, take, drop, ℤ, slice_get, FitsSigned, Option, Some, None, is_some, Bool, true, false}
+use Rattle.std.specs.Prelude.{◌≡◌, ℕ, ◌+◌, ◌≤◌, List, [], ◌∷◌, ◌++◌, length, take, drop, ℤ}
+use Rattle.std.specs.Prelude.{slice_get, FitsSigned, Option, Some, None, is_some, Bool, true, false}
 use Rattle.rtio_types.specs.declared.event.Event.{Event}
 use Rattle.rtio_types.specs.declared.outcome.Exc.{Exc}
 use Rattle.rtio_types.specs.declared.request.Reply.{Reply}
@@ -11,7 +12,8 @@ use Rattle.kern_syntax.specs.Tree.{Bytes}
 use Rattle.kern_calls.specs.declared.types.ValueType.{ValueType}
 use Rattle.kern_calls.specs.declared.types.ValueType.TheVariants as V
 use Rattle.kern_calls.specs.Types.{Names}
-use Rattle.timeline_sem.specs.Actions.{State, Reason, break, continue, return, raised, budget, unanswered, Completion, normal, early}
+use Rattle.timeline_sem.specs.Actions.{State, Reason, break, continue, return, raised}
+use Rattle.timeline_sem.specs.Actions.{budget, unanswered, Completion, normal, early}
 use Rattle.core_isa.specs.declared.code.Code.{Code}
 use Rattle.core_isa.specs.declared.code.CodeFunction.{CodeFunction}
 use Rattle.core_isa.specs.declared.code.CodeLine.{CodeLine}
@@ -63,8 +65,9 @@ abbrev pub AllNumbersFit : List Reply → Type 0
 AllNumbersFit [] = Unit {0}
 AllNumbersFit (r ∷ rs) = NumbersFit r × AllNumbersFit rs
 
--- what surrounds a part while its code runs, and is as before where the part ends normally: the function and its names, the temporary
--- slots that the enclosing parts use, the operands, handlers and callers, and the open recording if there is one
+-- what surrounds a part while its code runs, and is as before where the part ends
+-- normally: the function and its names, the temporary slots that the enclosing parts
+-- use, the operands, handlers and callers, and the open recording if there is one
 pub record Around : Type 0 where
   pub function : CodeFunction
   pub names : Names
@@ -74,7 +77,8 @@ pub record Around : Type 0 where
   pub callers : List Frame
   pub opening : Option Opening
 
--- what a part has of its own beyond its surroundings: operands, the last one first, and temporary slots, the last one last
+-- what a part has of its own beyond its surroundings: operands,
+-- the last one first, and temporary slots, the last one last
 pub record Local : Type 0 where
   pub operands : List ℤ
   pub temporaries : List ℤ
@@ -99,8 +103,8 @@ recording_of (Some opening) (Some events) =
     Some (record { name = opening.name; saved = opening.saved; events = events; callers = opening.callers })
 recording_of _ _ = None
 
--- the machine that stands for a state at a place: with what the part has of its own, some free slots behind the temporary
--- ones, and a count of instructions
+-- the machine that stands for a state at a place: with what the part has of its
+-- own, some free slots behind the temporary ones, and a count of instructions
 abbrev pub machine_at : Around → State → Local → (free : List ℤ) → (place count : ℕ) → Machine
 machine_at around s local free place count =
     record {
@@ -135,7 +139,8 @@ abbrev pub SlotsAdd : Around → (own free : List ℤ) → Type 0
 SlotsAdd around own free =
     slots_of_names around.names + length around.temporaries + length own + length free ≡ around.function.slots
 
--- where the enclosing loop goes on and ends, how many handlers were added inside it, and how many temporary slots it keeps
+-- where the enclosing loop goes on and ends, how many handlers
+-- were added inside it, and how many temporary slots it keeps
 pub record Loop : Type 0 where
   pub again_place : ℕ
   pub end_place : ℕ
@@ -172,9 +177,10 @@ abbrev pub IsReturn : Option CodeLine → Type 0
 IsReturn None = ⊥
 IsReturn (Some line) = line.instr ≡ I.Return
 
--- what a part may rest on, wherever it stands in a function: the names, how many further functions may be active, how many temporary slots
--- the function has and what the enclosing parts hold in theirs, how many handlers the function has added, whether no recording is open, whether a `return` may end it (and then
--- nothing lies on the operands), whether the function has a value, and the enclosing loop
+-- what a part may rest on, wherever it stands in a function: the names, how many further functions may
+-- be active, how many temporary slots the function has and what the enclosing parts hold in theirs,
+-- how many handlers the function has added, whether no recording is open, whether a `return` may end
+-- it (and then nothing lies on the operands), whether the function has a value, and the enclosing loop
 pub record Setting : Type 0 where
   pub names : Names
   pub room : ℕ
@@ -201,8 +207,8 @@ pub record Suits (setting : Setting) (around : Around) : Type 0 where
   pub active : length around.callers + 1 + setting.room ≡ 64
 
 module _ (given : List Reply) where
-  -- a state and its surroundings agree: the names have their values, outputs are collected just where a recording is open, every number is one of
-  -- 64 bits, and the replies left are those given without as many as there were requests
+  -- a state and its surroundings agree: the names have their values, outputs are collected just where a recording is
+  -- open, every number is one of 64 bits, and the replies left are those given without as many as there were requests
   pub record Agrees (names : Names) (opening : Option Opening) (s : State) : Type 0 where
     pub shapes : HasNames names s.values
     pub collects : is_some s.collected ≡ is_some opening
@@ -223,7 +229,8 @@ module _ (given : List Reply) where
       pub agrees : Agrees around.names around.opening s
       pub leads : Leads from (goes (machine_at around s local free place count))
 
-    -- the machine comes to where a state that stands for this one raises the exception, under the same handlers and callers
+    -- the machine comes to where a state that stands for this one
+    -- raises the exception, under the same handlers and callers
     pub record ComesToRaise (from : Next) (around : Around) (s : State) (x : Exc) : Type 0 where
       pub local : Local
       pub free : List ℤ
@@ -267,8 +274,8 @@ module _ (given : List Reply) where
     EndsEarly setting from around budget s = EndsAs from around s X.budget
     EndsEarly setting from around unanswered s = EndsAs from around s X.unanswered
 
-    -- what a completion of a part means to the machine: at a normal end its value is good, and the machine stands at the place behind the
-    -- part with what comes of the value
+    -- what a completion of a part means to the machine: at a normal end its value is good,
+    -- and the machine stands at the place behind the part with what comes of the value
     abbrev pub EndsWith : {A : Type 0} → Setting → Next → Around → (place : ℕ) → (good : A → Type 0) → (results : A → Local) → Completion A → Type 0
     EndsWith setting from around place good results (normal a s) = good a × Comes from around s (results a) place
     EndsWith setting from around place good results (early reason s) = EndsEarly setting from around reason s

@@ -1,5 +1,5 @@
--- The condition of a branch or of a `while`: what stands behind its parentheses and each `not` is asked, and of a comparison the
--- opposite where that takes fewer instructions.
+-- The condition of a branch or of a `while`: what stands behind its parentheses and each `not` is asked, and of a
+-- comparison the opposite where that takes fewer instructions.
 use Rattle.std.specs.Prelude.{ℕ, ◌+◌, List, [], ◌∷◌, Bool, true, false, not}
 use Rattle.kern_syntax.specs.declared.expression.Comparison.{Comparison}
 use Rattle.kern_syntax.specs.declared.expression.Comparison.TheVariants as C
@@ -14,8 +14,8 @@ abbrev pub ends_loop : TestKind → Bool
 ends_loop Branch = false
 ends_loop LoopEnd = true
 
--- whether a comparison's opposite is asked: that of `>` and `>=`, which have no instruction of their own though their opposites
--- have one; and at the end of a loop, where the test of an opposite is shorter, that of `==` and `!=`
+-- whether a comparison's opposite is asked: that of `>` and `>=`, which have no instruction of their own though their
+-- opposites have one; and at the end of a loop, where the test of an opposite is shorter, that of `==` and `!=`
 abbrev pub is_opposed : Comparison → TestKind → Bool
 is_opposed C.Equal test = ends_loop test
 is_opposed C.NotEqual test = ends_loop test
@@ -79,7 +79,8 @@ is_turned test e = is_turned_bare test (is_contrary e) (bare e)
 abbrev pub asked : TestKind → Expression → Expression
 asked test e = asked_bare test (is_contrary e) (bare e)
 
--- at a place, with the answer on the operands: goes on behind these where the condition holds, and elsewhere where it doesn't
+-- at a place, with the answer on the operands: goes on behind
+-- these where the condition holds, and elsewhere where it doesn't
 abbrev pub test_instrs : (turned : Bool) → (place elsewhere : ℕ) → List Instr
 test_instrs false place elsewhere = I.JumpZero elsewhere ∷ []
 test_instrs true place elsewhere = I.JumpZero (place + 2) ∷ I.Jump elsewhere ∷ []
@@ -88,8 +89,8 @@ abbrev pub test_size : (turned : Bool) → ℕ
 test_size false = 1
 test_size true = 2
 
--- the same at the end of a loop: goes back to a turn where the condition holds, and past the loop, which ends behind these, where
--- it doesn't
+-- the same at the end of a loop: goes back to a turn where the condition
+-- holds, and past the loop, which ends behind these, where it doesn't
 abbrev pub loop_instrs : (turned : Bool) → (turn past : ℕ) → List Instr
 loop_instrs false turn past = I.JumpZero past ∷ I.Jump turn ∷ []
 loop_instrs true turn past = I.JumpZero turn ∷ []

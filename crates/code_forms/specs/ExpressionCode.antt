@@ -1,6 +1,9 @@
 -- The code of expressions.
-use Rattle.std.specs.Prelude.{ℕ, ◌+◌, List, [], ◌∷◌, ◌++◌, pos, neg_ℤ, Bool, true, false, if◌then◌else◌, Option, Some, None}
-use Rattle.kern_syntax.specs.Tree.{Bytes, Expression, integer, true_literal, false_literal, variable, element, group, unary, binary, compare, negation, conjunction, disjunction, call, method, Arguments, no_more, value_then, text_then}
+use Rattle.std.specs.Prelude.{ℕ, ◌+◌, List, [], ◌∷◌, ◌++◌, pos, neg_ℤ, Bool}
+use Rattle.std.specs.Prelude.{true, false, if◌then◌else◌, Option, Some, None}
+use Rattle.kern_syntax.specs.Tree.{Bytes, Expression, integer, true_literal, false_literal, variable}
+use Rattle.kern_syntax.specs.Tree.{element, group, unary, binary, compare, negation, conjunction}
+use Rattle.kern_syntax.specs.Tree.{disjunction, call, method, Arguments, no_more, value_then, text_then}
 use Rattle.kern_calls.specs.Calls.{builtin_named, look_up, method_named}
 use Rattle.kern_calls.specs.Types.{type_of}
 use Rattle.timeline_sem.specs.Expressions.{text_in}
@@ -9,7 +12,9 @@ use Rattle.core_isa.specs.declared.code.Mark.{Mark}
 use Rattle.core_isa.specs.declared.instr.Instr.{Instr}
 use Rattle.core_isa.specs.declared.instr.Instr.TheVariants as I
 use Rattle.code_forms.specs.Lines.{line, raised, straight}
-use Rattle.code_forms.specs.Operations.{operator_instrs, unary_instrs, literal, negated, comparison_instrs, not_instrs, load_instr, call_instrs, call_has_value, takes_numbers, array_argument, method_instrs, method_has_value, wrapped_type}
+use Rattle.code_forms.specs.Operations.{operator_instrs, unary_instrs, literal, negated, comparison_instrs}
+use Rattle.code_forms.specs.Operations.{not_instrs, load_instr, call_instrs, call_has_value, takes_numbers}
+use Rattle.code_forms.specs.Operations.{array_argument, method_instrs, method_has_value, wrapped_type}
 use Rattle.code_forms.specs.Setting.{Setting, slot_of, length_of}
 use Rattle.code_forms.specs.Sizes.{expression_size, arguments_size}
 

@@ -5,8 +5,10 @@ use Rattle.core_isa.specs.declared.code.Mark.{Mark}
 use Rattle.code_forms.specs.ExpressionCode.{expression_code, effect_code}
 use Rattle.code_forms.specs.Programs.{function_code, function_size}
 use Rattle.code_forms.specs.Setting.{Setting}
-use Rattle.code_forms.specs.Sizes.{expression_size, effect_size, statement_size, block_size, parallel_size, others_size, otherwise_size, handlers_size}
-use Rattle.code_forms.specs.StatementCode.{Inside, statement_code, block_code, parallel_code, others_code, otherwise_code, handlers_code}
+use Rattle.code_forms.specs.Sizes.{expression_size, effect_size, statement_size, block_size}
+use Rattle.code_forms.specs.Sizes.{parallel_size, others_size, otherwise_size, handlers_size}
+use Rattle.code_forms.specs.StatementCode.{Inside, statement_code, block_code, parallel_code}
+use Rattle.code_forms.specs.StatementCode.{others_code, otherwise_code, handlers_code}
 
 -- the code of each part has as many lines as its size says, at any place, under any mark and whatever slots are free
 pub record HasItsSize (setting : Setting) : Type 0 where

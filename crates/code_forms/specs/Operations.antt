@@ -12,7 +12,10 @@ use Rattle.kern_calls.specs.declared.types.ValueType.TheVariants as V
 use Rattle.kern_calls.specs.declared.calls.Builtin.{Builtin}
 use Rattle.kern_calls.specs.declared.calls.Builtin.TheVariants.{NowMu, AtMu, DelayMu, SetDataset, Len, ToInt32, ToInt64}
 use Rattle.kern_calls.specs.declared.calls.Operation.{Operation}
-use Rattle.kern_calls.specs.declared.calls.Operation.TheVariants.{On, Off, Pulse, Write, GateRising, GateFalling, GateBoth, Timestamp, Count, Counter, BreakRealtime, Reset, WaitUntil, Playback, PlaybackHandle, GetHandle, Erase}
+use Rattle.kern_calls.specs.declared.calls.Operation.TheVariants.{On, Off, Pulse, Write, GateRising}
+use Rattle.kern_calls.specs.declared.calls.Operation.TheVariants.{GateFalling, GateBoth, Timestamp, Count}
+use Rattle.kern_calls.specs.declared.calls.Operation.TheVariants.{Counter, BreakRealtime, Reset, WaitUntil}
+use Rattle.kern_calls.specs.declared.calls.Operation.TheVariants.{Playback, PlaybackHandle, GetHandle, Erase}
 use Rattle.kern_calls.specs.Calls.{builtin_result, operation_result}
 use Rattle.kern_calls.specs.Types.{bits_of}
 use Rattle.timeline_sem.specs.Expressions.{array_in}
@@ -52,13 +55,14 @@ abbrev pub literal : Expression → Option ℕ
 literal (integer n) = Some n
 literal e = None
 
--- the type at which a result is wrapped that is at least 0: where an integer of the text bounds it, nothing is left to do
+-- the type at which a result is wrapped that is at least 0:
+-- where an integer of the text bounds it, nothing is left to do
 abbrev pub bounded_type : (literal : Option ℕ) → ValueType → ValueType
 bounded_type (Some n) t = V.Int64
 bounded_type None t = t
 
--- the type at which an operator's result is wrapped, by the numbers of those operands that are integers: a remainder isn't
--- greater than the right one, nor are the bits that two numbers have in common than either
+-- the type at which an operator's result is wrapped, by the numbers of those operands that are integers: a remainder
+-- isn't greater than the right one, nor are the bits that two numbers have in common than either
 abbrev pub wrapped_type : BinaryOperator → (left right : Option ℕ) → ValueType → ValueType
 wrapped_type B.Add left right t = t
 wrapped_type B.Subtract left right t = t

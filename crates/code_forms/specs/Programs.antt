@@ -1,6 +1,8 @@
 -- The code of functions and of whole programs.
 use Rattle.std.specs.Prelude.{ℕ, ◌+◌, max, List, [], ◌∷◌, ◌++◌, length, is_some, unwrap_or, codes}
-use Rattle.kern_syntax.specs.Tree.{Bytes, Statement, augment_element, assign_list, if_then, while_do, for_range, parallel, sequential, record_as, try_do, Block, done, line_then, Otherwise, no_else, else_do, elif_then, Handlers, no_handler, except_then, FunctionTree, ProgramTree}
+use Rattle.kern_syntax.specs.Tree.{Bytes, Statement, augment_element, assign_list, if_then, while_do, for_range}
+use Rattle.kern_syntax.specs.Tree.{parallel, sequential, record_as, try_do, Block, done, line_then, Otherwise, no_else}
+use Rattle.kern_syntax.specs.Tree.{else_do, elif_then, Handlers, no_handler, except_then, FunctionTree, ProgramTree}
 use Rattle.kern_types.specs.Plain.{is_in}
 pub use Rattle.kern_types.specs.PlainFunctions.{plain_names}
 use Rattle.kern_types.specs.Programs.{place_of_function}

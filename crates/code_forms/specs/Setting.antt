@@ -1,5 +1,6 @@
 -- What the code of a function rests on: its names with their slots, the texts of the program and its functions.
-use Rattle.std.specs.Prelude.{ℕ, ◌+◌, List, [], ◌∷◌, Bool, if◌then◌else◌, position, bytes_eq, Option, Some, option_and_then, unwrap_or, is_some}
+use Rattle.std.specs.Prelude.{ℕ, ◌+◌, List, [], ◌∷◌, Bool, if◌then◌else◌, position}
+use Rattle.std.specs.Prelude.{bytes_eq, Option, Some, option_and_then, unwrap_or, is_some}
 use Rattle.kern_syntax.specs.Tree.{Bytes}
 use Rattle.kern_calls.specs.declared.types.ValueType.{ValueType}
 use Rattle.kern_calls.specs.declared.types.ValueType.TheVariants as V

@@ -1,6 +1,12 @@
 -- How many instructions the code of a part has.
-use Rattle.std.specs.Prelude.{ℕ, ◌+◌, ◌-◌, ◌*◌, List, [], ◌∷◌, length, Bool, true, false, if◌then◌else◌, Option, Some, None}
-use Rattle.kern_syntax.specs.Tree.{Bytes, Expression, integer, true_literal, false_literal, variable, element, group, unary, binary, compare, negation, conjunction, disjunction, call, method, Arguments, no_more, value_then, text_then, Statement, pass, break, continue, return, evaluate, assign, assign_element, augment, augment_element, assign_repeated, assign_list, if_then, while_do, for_range, parallel, sequential, record_as, try_do, Block, done, line_then, Otherwise, no_else, else_do, elif_then, Handlers, no_handler, except_then}
+use Rattle.std.specs.Prelude.{ℕ, ◌+◌, ◌-◌, ◌*◌, List, [], ◌∷◌, length, Bool}
+use Rattle.std.specs.Prelude.{true, false, if◌then◌else◌, Option, Some, None}
+use Rattle.kern_syntax.specs.Tree.{Bytes, Expression, integer, true_literal, false_literal, variable, element, group}
+use Rattle.kern_syntax.specs.Tree.{unary, binary, compare, negation, conjunction, disjunction, call, method, Arguments}
+use Rattle.kern_syntax.specs.Tree.{no_more, value_then, text_then, Statement, pass, break, continue, return, evaluate}
+use Rattle.kern_syntax.specs.Tree.{assign, assign_element, augment, augment_element, assign_repeated, assign_list}
+use Rattle.kern_syntax.specs.Tree.{if_then, while_do, for_range, parallel, sequential, record_as, try_do, Block, done}
+use Rattle.kern_syntax.specs.Tree.{line_then, Otherwise, no_else, else_do, elif_then, Handlers, no_handler, except_then}
 use Rattle.kern_calls.specs.Calls.{builtin_named, method_named}
 use Rattle.kern_calls.specs.Types.{type_of}
 use Rattle.timeline_sem.specs.Expressions.{text_in}
@@ -8,7 +14,9 @@ use Rattle.timeline_sem.specs.Statements.{operator_of}
 use Rattle.code_forms.specs.declared.test_kind.TestKind.TheVariants.{Branch, LoopEnd}
 use Rattle.code_forms.specs.Conditions.{is_turned, asked, test_size, loop_size}
 use Rattle.code_forms.specs.Setting.{Setting}
-use Rattle.code_forms.specs.Operations.{operator_instrs, unary_instrs, literal, negated, comparison_instrs, call_instrs, call_has_value, takes_numbers, array_argument, method_instrs, method_has_value, wrapped_type}
+use Rattle.code_forms.specs.Operations.{operator_instrs, unary_instrs, literal, negated}
+use Rattle.code_forms.specs.Operations.{comparison_instrs, call_instrs, call_has_value, takes_numbers}
+use Rattle.code_forms.specs.Operations.{array_argument, method_instrs, method_has_value, wrapped_type}
 
 -- an instruction more where there is no value
 abbrev pub unless : Bool → ℕ

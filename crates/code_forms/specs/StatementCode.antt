@@ -1,6 +1,10 @@
 -- The code of statements.
-use Rattle.std.specs.Prelude.{ℕ, zero, suc, ◌+◌, ◌-◌, List, [], ◌∷◌, ◌++◌, pos, ℤ, Bool, true, false, if◌then◌else◌, length, Option, Some, None, bytes_eq, codes}
-use Rattle.kern_syntax.specs.Tree.{Bytes, Expression, variable, Statement, pass, break, continue, return, evaluate, assign, assign_element, augment, augment_element, assign_repeated, assign_list, if_then, while_do, for_range, parallel, sequential, record_as, try_do, Block, done, line_then, Otherwise, no_else, else_do, elif_then, Handlers, no_handler, except_then}
+use Rattle.std.specs.Prelude.{ℕ, zero, suc, ◌+◌, ◌-◌, List, [], ◌∷◌, ◌++◌, pos, ℤ, Bool, true}
+use Rattle.std.specs.Prelude.{false, if◌then◌else◌, length, Option, Some, None, bytes_eq, codes}
+use Rattle.kern_syntax.specs.Tree.{Bytes, Expression, variable, Statement, pass, break, continue, return, evaluate}
+use Rattle.kern_syntax.specs.Tree.{assign, assign_element, augment, augment_element, assign_repeated, assign_list}
+use Rattle.kern_syntax.specs.Tree.{if_then, while_do, for_range, parallel, sequential, record_as, try_do, Block, done}
+use Rattle.kern_syntax.specs.Tree.{line_then, Otherwise, no_else, else_do, elif_then, Handlers, no_handler, except_then}
 use Rattle.kern_calls.specs.declared.types.ValueType.TheVariants.{Int64}
 use Rattle.kern_calls.specs.Types.{type_of}
 use Rattle.timeline_sem.specs.Statements.{operator_of}
@@ -14,7 +18,8 @@ use Rattle.code_forms.specs.ExpressionCode.{expression_code, effect_code}
 use Rattle.code_forms.specs.Lines.{line, raised, with_handler, with_recording, straight, end_tries}
 use Rattle.code_forms.specs.Operations.{operator_instrs}
 use Rattle.code_forms.specs.Setting.{Setting, slot_of, length_of, index_of_text}
-use Rattle.code_forms.specs.Sizes.{has_second, parallel_begin_size, expression_size, from_size, exit_size, statement_size, block_size, otherwise_size, handlers_size}
+use Rattle.code_forms.specs.Sizes.{has_second, parallel_begin_size, expression_size, from_size}
+use Rattle.code_forms.specs.Sizes.{exit_size, statement_size, block_size, otherwise_size, handlers_size}
 
 -- the enclosing loop: where it goes on, where it ends, and how many handlers there were before it
 pub record LoopPlaces : Type 0 where
@@ -84,7 +89,8 @@ abbrev pub moved : (count from to : ℕ) → List Instr
 moved zero from to = []
 moved (suc n) from to = I.Load from ∷ I.Store to ∷ moved n (from + 1) (to + 1)
 
--- the slot where an element of a list is stored, with so many behind it: a free one, but the last goes to its place in the array
+-- the slot where an element of a list is stored, with so many behind
+-- it: a free one, but the last goes to its place in the array
 abbrev pub element_slot : (left free last : ℕ) → ℕ
 element_slot zero free last = last
 element_slot (suc n) free last = free
@@ -94,7 +100,8 @@ abbrev pub exit : Mark → Otherwise → (end : ℕ) → List CodeLine
 exit mark no_else end = []
 exit mark rest end = line mark (I.Jump end) ∷ []
 
--- a branch: the code of its condition and the test, of its body, of the end of the body, and of the branches that follow
+-- a branch: the code of its condition and the test, of its
+-- body, of the end of the body, and of the branches that follow
 abbrev pub branch_lines : Mark → (test : List Instr) → (condition body leave rest : List CodeLine) → List CodeLine
 branch_lines mark test condition body leave rest =
     condition ++ straight (raised 1 mark) test ++ body ++ leave ++ rest
@@ -137,13 +144,14 @@ for_begins setting inside x again =
 abbrev pub for_goes_on : Inside → (turn : ℕ) → List Instr
 for_goes_on inside turn = I.Load (inside.free + 1) ∷ I.Load inside.free ∷ I.Le ∷ I.JumpZero turn ∷ []
 
--- a parallel block begins: the cursor is kept as the greatest end so far and, if there is a second statement, as its start too
+-- a parallel block begins: the cursor is kept as the greatest end
+-- so far and, if there is a second statement, as its start too
 abbrev pub parallel_begins : Inside → (second : Bool) → List Instr
 parallel_begins inside true = I.Now ∷ I.Dup ∷ I.Store inside.free ∷ I.Store (inside.free + 1) ∷ []
 parallel_begins inside false = I.Now ∷ I.Store (inside.free + 1) ∷ []
 
--- a statement of a parallel block has ended, whose end counts where it is the greatest: the next one begins at the start, or the
--- block ends at the greatest end
+-- a statement of a parallel block has ended, whose end counts where it is the
+-- greatest: the next one begins at the start, or the block ends at the greatest end
 abbrev pub next_begins : Inside → List Instr
 next_begins inside =
     I.Load (inside.free - 1)
@@ -312,8 +320,8 @@ module _ (setting : Setting) where
         statement_code inside place s
         ++ block_code inside (place + statement_size setting inside.mark.tries inside.loop.tries s) rest
 
-    -- the statements of a parallel block: its greatest end is kept in the last slot in use and, if there is a second one, its start
-    -- in the slot before that
+    -- the statements of a parallel block: its greatest end is kept in the last
+    -- slot in use and, if there is a second one, its start in the slot before that
     pub parallel_code : Inside → (place : ℕ) → Block → List CodeLine
     parallel_code inside place done = []
     parallel_code inside place (line_then line s rest) =

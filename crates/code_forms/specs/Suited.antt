@@ -1,14 +1,22 @@
 -- What a typed program gives the compiler: its names are there with the right kinds, its calls have what they take, and
 -- nothing leaves a block that it may not leave.
-use Rattle.std.specs.Prelude.{◌≡◌, ℕ, ◌<◌, ◌≤◌, ◌^◌, List, [], ◌∷◌, length, Bool, true, false, Option, Some, None, is_some, slice_get}
-use Rattle.kern_syntax.specs.Tree.{Bytes, Expression, integer, true_literal, false_literal, variable, element, group, unary, binary, compare, negation, conjunction, disjunction, call, method, Arguments, no_more, value_then, text_then, Statement, pass, break, continue, return, evaluate, assign, assign_element, augment, augment_element, assign_repeated, assign_list, if_then, while_do, for_range, parallel, sequential, record_as, try_do, Block, done, line_then, Otherwise, no_else, else_do, elif_then, Handlers, no_handler, except_then, FunctionTree, ProgramTree}
+use Rattle.std.specs.Prelude.{◌≡◌, ℕ, ◌<◌, ◌≤◌, ◌^◌, List, [], ◌∷◌, length, Bool}
+use Rattle.std.specs.Prelude.{true, false, Option, Some, None, is_some, slice_get}
+use Rattle.kern_syntax.specs.Tree.{Bytes, Expression, integer, true_literal, false_literal, variable, element}
+use Rattle.kern_syntax.specs.Tree.{group, unary, binary, compare, negation, conjunction, disjunction, call, method}
+use Rattle.kern_syntax.specs.Tree.{Arguments, no_more, value_then, text_then, Statement, pass, break, continue}
+use Rattle.kern_syntax.specs.Tree.{return, evaluate, assign, assign_element, augment, augment_element}
+use Rattle.kern_syntax.specs.Tree.{assign_repeated, assign_list, if_then, while_do, for_range, parallel, sequential}
+use Rattle.kern_syntax.specs.Tree.{record_as, try_do, Block, done, line_then, Otherwise, no_else, else_do}
+use Rattle.kern_syntax.specs.Tree.{elif_then, Handlers, no_handler, except_then, FunctionTree, ProgramTree}
 use Rattle.kern_calls.specs.declared.types.ValueType.{ValueType}
 use Rattle.kern_calls.specs.declared.types.ValueType.TheVariants as V
 use Rattle.kern_types.specs.Plain.{is_in}
 use Rattle.kern_calls.specs.declared.calls.Builtin.{Builtin}
 use Rattle.kern_calls.specs.declared.calls.Builtin.TheVariants.{NowMu, SetDataset}
 use Rattle.kern_calls.specs.declared.calls.Operation.{Operation}
-use Rattle.kern_calls.specs.declared.calls.Operation.TheVariants.{On, Off, Write, Counter, BreakRealtime, Reset, Playback, GetHandle, Erase}
+use Rattle.kern_calls.specs.declared.calls.Operation.TheVariants.{On, Off, Write, Counter, BreakRealtime}
+use Rattle.kern_calls.specs.declared.calls.Operation.TheVariants.{Reset, Playback, GetHandle, Erase}
 use Rattle.kern_calls.specs.Calls.{look_up, builtin_named, builtin_is_live, method_named, is_live}
 use Rattle.kern_calls.specs.Types.{Names, function_named, names_of}
 use Rattle.code_forms.specs.ExpressionCode.{numbers_in}
@@ -68,8 +76,8 @@ abbrev pub IsAnArray : Setting → Option Bytes → Type 0
 IsAnArray setting None = ⊥
 IsAnArray setting (Some x) = (n : ℕ) × IsArrayName setting x n × (n < 2 ^ 63)
 
--- a call by name has what it takes: numbers, or an array. A function of the program is there, and is plain where a recording
--- may be open
+-- a call by name has what it takes: numbers, or an array. A function
+-- of the program is there, and is plain where a recording may be open
 abbrev pub HasWhatItTakes : Setting → (plain : List Bytes) → (in_record : Bool) → (name : Bytes) → Arguments → (array : Option Bytes) → Option Builtin → Type 0
 HasWhatItTakes setting plain d f args array None =
     (called : FunctionTree)

@@ -10,7 +10,8 @@ use Rattle.core_image.specs.Accepted.{MainTakesNothing}
 use Rattle.core_image.specs.Ranges.{IsInRange}
 use Rattle.code_meaning.specs.Laws.{IsLawfulStart, RunsAsMeant}
 
--- the code has the program's functions at the same indexes: each takes as many arguments, and leaves a value where it has one
+-- the code has the program's functions at the same indexes: each
+-- takes as many arguments, and leaves a value where it has one
 pub record HasFunctions (program : ProgramTree) (code : Code) : Type 0 where
   pub count : length code.functions ≡ length program
   pub each : (k : ℕ) (f : FunctionTree)
@@ -20,11 +21,11 @@ pub record HasFunctions (program : ProgramTree) (code : Code) : Type 0 where
       × (g.params ≡ length f.parameters)
       × (g.value ≡ is_some f.result)
 
--- The code is accepted: its fields are in their ranges, its marks are right at every place, and its main function takes no
--- arguments. It has the program's functions, its main function is the program's `main`, and it has at most 16 instructions for
--- each node of the program's tree. From every function, under arguments that fit it, at any cursor, with any units and under
--- any replies that fit their requests, a run of it asks what the function means, in the same order, and ends so, at the same
--- cursor and with the same units left.
+-- The code is accepted: its fields are in their ranges, its marks are right at every place, and its main function takes
+-- no arguments. It has the program's functions, its main function is the program's `main`, and it has at most 16
+-- instructions for each node of the program's tree. From every function, under arguments that fit it, at any cursor,
+-- with any units and under any replies that fit their requests, a run of it asks what the function means, in the same
+-- order, and ends so, at the same cursor and with the same units left.
 pub record DoesAs (program : ProgramTree) (code : Code) : Type 0 where
   pub in_range : IsInRange code
   pub marked : Marked code

@@ -1,6 +1,8 @@
 -- How many operands the code of an expression has at most, above those before it.
 use Rattle.std.specs.Prelude.{ℕ, ◌+◌, max}
-use Rattle.kern_syntax.specs.Tree.{Expression, integer, true_literal, false_literal, variable, element, group, unary, binary, compare, negation, conjunction, disjunction, call, method, Arguments, no_more, value_then, text_then}
+use Rattle.kern_syntax.specs.Tree.{Expression, integer, true_literal, false_literal, variable, element}
+use Rattle.kern_syntax.specs.Tree.{group, unary, binary, compare, negation, conjunction, disjunction}
+use Rattle.kern_syntax.specs.Tree.{call, method, Arguments, no_more, value_then, text_then}
 use Rattle.code_forms.specs.ExpressionCode.{numbers_in}
 
 -- a bound for the operands of the instructions of any one operator or call, and for how many these are

@@ -5,7 +5,8 @@ use Rattle.kern_syntax.specs.Tree.{Bytes, FunctionTree, ProgramTree}
 use Rattle.kern_calls.specs.Types.{names_of}
 use Rattle.kern_types.specs.Checked.{IsChecked}
 use Rattle.core_isa.specs.Marks.{HasOrder}
-use Rattle.code_forms.specs.Programs.{setting_of, body_inside, block_slots, function_size, functions_code, code_of_program}
+use Rattle.code_forms.specs.Programs.{setting_of, body_inside, block_slots}
+use Rattle.code_forms.specs.Programs.{function_size, functions_code, code_of_program}
 use Rattle.code_forms.specs.Setting.{slots_of_names}
 use Rattle.code_forms.specs.Texts.{texts_of}
 use Rattle.code_ranges.specs.Fits.{SettingFits}

@@ -1,6 +1,9 @@
 -- What the code of a statement needs where it is put.
 use Rattle.std.specs.Prelude.{◌≡◌, ℕ, ◌+◌, ◌<◌, ◌≤◌, ◌^◌, List, [], ◌∷◌, length, Option, Some, None}
-use Rattle.kern_syntax.specs.Tree.{Bytes, Expression, Statement, pass, break, continue, return, evaluate, assign, assign_element, augment, augment_element, assign_repeated, assign_list, if_then, while_do, for_range, parallel, sequential, record_as, try_do, Block, done, line_then, Otherwise, no_else, else_do, elif_then, Handlers, no_handler, except_then}
+use Rattle.kern_syntax.specs.Tree.{Bytes, Expression, Statement, pass, break, continue, return, evaluate, assign}
+use Rattle.kern_syntax.specs.Tree.{assign_element, augment, augment_element, assign_repeated, assign_list, if_then}
+use Rattle.kern_syntax.specs.Tree.{while_do, for_range, parallel, sequential, record_as, try_do, Block, done, line_then}
+use Rattle.kern_syntax.specs.Tree.{Otherwise, no_else, else_do, elif_then, Handlers, no_handler, except_then}
 use Rattle.core_isa.specs.declared.code.Mark.{Mark}
 use Rattle.code_forms.specs.Lines.{raised, with_handler, with_recording}
 use Rattle.code_forms.specs.Setting.{Setting, slot_of}

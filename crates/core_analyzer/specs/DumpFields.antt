@@ -1,5 +1,6 @@
 -- Where bytes that spell no dump are first wrong.
-use Rattle.std.specs.Prelude.{ℕ, zero, suc, ◌+◌, ◌*◌, Bool, true, ◌&&◌, ◌==◌, nat_lt, List, [], ◌∷◌, ◌++◌, length, drop, slice_index, Option, Some, None}
+use Rattle.std.specs.Prelude.{ℕ, zero, suc, ◌+◌, ◌*◌, Bool, true, ◌&&◌, ◌==◌, nat_lt, List}
+use Rattle.std.specs.Prelude.{[], ◌∷◌, ◌++◌, length, drop, slice_index, Option, Some, None}
 use Rattle.rtio_types.specs.declared.event.Event.{Event}
 use Rattle.recording_bytes.specs.Reading.{fixed_read}
 use Rattle.recording_bytes.specs.Fields.{Field, field_behind, wrong_among}
@@ -16,8 +17,8 @@ abbrev pub header_fields : List ℕ → List Field
 header_fields bytes =
     let field = field_behind 0 bytes in field 0 4 (has_magic bytes) ∷ field 4 8 true ∷ field 12 4 true ∷ []
 
--- channel, address, data and stamp of an event behind another one: the stamp is at least 0, and rises; the event begins at a
--- place, and the bytes are those from there on
+-- channel, address, data and stamp of an event behind another one: the stamp is at least
+-- 0, and rises; the event begins at a place, and the bytes are those from there on
 abbrev pub event_fields : ℕ → Option Event → List ℕ → List Field
 event_fields place before bytes =
     let field = field_behind place bytes in

@@ -1,5 +1,6 @@
 -- What a waveform says of a channel at a time, read from the text alone; and what events say of it.
-use Rattle.std.specs.Prelude.{ℕ, pos, List, [], ◌∷◌, Bool, false, ◌&&◌, ◌==◌, nat_le, nat_lt, int_le, fold, if◌then◌else◌, Option, Some, None}
+use Rattle.std.specs.Prelude.{ℕ, pos, List, [], ◌∷◌, Bool, false, ◌&&◌, ◌==◌, nat_le}
+use Rattle.std.specs.Prelude.{nat_lt, int_le, fold, if◌then◌else◌, Option, Some, None}
 use Rattle.std.specs.List.{list_all, slice_split}
 use Rattle.std.specs.Char.{digit_value}
 use Rattle.std.specs.Str.Parse.{digits_value}

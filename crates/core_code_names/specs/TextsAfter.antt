@@ -1,6 +1,11 @@
 -- The texts that are known after a part of a program, in the order in which its code uses them.
 use Rattle.std.specs.Prelude.{List, [], ◌∷◌, Option, Some, None}
-use Rattle.kern_syntax.specs.Tree.{Bytes, Expression, element, group, unary, binary, compare, negation, conjunction, disjunction, call, method, Arguments, no_more, value_then, text_then, Statement, return, evaluate, assign, assign_element, augment, augment_element, assign_repeated, assign_list, if_then, while_do, for_range, parallel, sequential, record_as, try_do, Block, done, line_then, Otherwise, no_else, else_do, elif_then, Handlers, no_handler, except_then, ProgramTree}
+use Rattle.kern_syntax.specs.Tree.{Bytes, Expression, element, group, unary, binary, compare, negation}
+use Rattle.kern_syntax.specs.Tree.{conjunction, disjunction, call, method, Arguments, no_more, value_then}
+use Rattle.kern_syntax.specs.Tree.{text_then, Statement, return, evaluate, assign, assign_element, augment}
+use Rattle.kern_syntax.specs.Tree.{augment_element, assign_repeated, assign_list, if_then, while_do, for_range}
+use Rattle.kern_syntax.specs.Tree.{parallel, sequential, record_as, try_do, Block, done, line_then, Otherwise}
+use Rattle.kern_syntax.specs.Tree.{no_else, else_do, elif_then, Handlers, no_handler, except_then, ProgramTree}
 use Rattle.kern_expression_types.specs.Before.{with_member}
 
 abbrev mutual

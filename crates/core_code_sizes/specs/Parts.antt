@@ -1,10 +1,12 @@
 -- Parts of the sizes of statements, as they are counted.
 use Rattle.std.specs.Prelude.{ℕ, zero, suc, ◌+◌}
-use Rattle.kern_syntax.specs.Tree.{Expression, Statement, if_then, while_do, for_range, parallel, sequential, record_as, try_do, Block, Otherwise}
+use Rattle.kern_syntax.specs.Tree.{Expression, Statement, if_then, while_do, for_range}
+use Rattle.kern_syntax.specs.Tree.{parallel, sequential, record_as, try_do, Block, Otherwise}
 use Rattle.code_forms.specs.declared.test_kind.TestKind.TheVariants.{Branch}
 use Rattle.code_forms.specs.Conditions.{is_turned, asked, test_size}
 use Rattle.code_forms.specs.Setting.{Setting}
-use Rattle.code_forms.specs.Sizes.{block_size, exit_size, expression_size, others_size, otherwise_size, parallel_size, statement_size}
+use Rattle.code_forms.specs.Sizes.{block_size, exit_size, expression_size, others_size}
+use Rattle.code_forms.specs.Sizes.{otherwise_size, parallel_size, statement_size}
 
 -- how many instructions a statement without a block has; 0 for one with a block
 abbrev pub simple_size : Setting → (tries kept : ℕ) → Statement → ℕ

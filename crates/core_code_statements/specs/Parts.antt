@@ -8,7 +8,9 @@ use Rattle.code_forms.specs.Conditions.{is_turned, asked, test_instrs}
 use Rattle.code_forms.specs.Lines.{line, raised, straight, with_handler}
 use Rattle.code_forms.specs.Setting.{Setting}
 use Rattle.code_forms.specs.Sizes.{block_size, exit_size, expression_size, when}
-use Rattle.code_forms.specs.StatementCode.{Inside, keeping, in_loop, under, code_of_name, exit, test_place, then_place, for_begins, for_goes_on, value_code, second_code, block_code, parallel_code, others_code, otherwise_code}
+use Rattle.code_forms.specs.StatementCode.{Inside, keeping, in_loop, under, code_of_name, exit, test_place}
+use Rattle.code_forms.specs.StatementCode.{then_place, for_begins, for_goes_on, value_code, second_code}
+use Rattle.code_forms.specs.StatementCode.{block_code, parallel_code, others_code, otherwise_code}
 
 -- further branches follow, or an `else`
 abbrev pub is_followed : Otherwise → Bool

@@ -7,6 +7,7 @@ pub mod Nearness
 pub mod Pieces
 pub mod Raising
 pub mod Room
+pub mod Roots
 pub mod Settling
 pub mod Stops
 pub mod Turning

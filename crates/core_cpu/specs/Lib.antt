@@ -5,5 +5,6 @@ pub mod Layout
 pub mod Moments
 pub mod Nearness
 pub mod Returning
+pub mod Roots
 pub mod Settled
 pub mod Standing

@@ -5,7 +5,8 @@ use Rattle.rtio_types.specs.declared.outcome.Outcome.{Outcome}
 use Rattle.rtio_types.specs.declared.outcome.Outcome.TheVariants as O
 use Rattle.rtio_types.specs.declared.request.Reply.{Reply}
 use Rattle.rtio_types.specs.declared.request.Request.{Request}
-use Rattle.core_isa.specs.Machine.{Machine, MachineEnd, returned, raised, budget, unanswered, Next, goes, ends, push, next, answered}
+use Rattle.core_isa.specs.Machine.{Machine, MachineEnd, returned, raised, budget}
+use Rattle.core_isa.specs.Machine.{unanswered, Next, goes, ends, push, next, answered}
 use Rattle.core_isa.specs.Steps.{play_events, play_reply}
 use Rattle.core_isa.specs.declared.code.Code.{Code}
 use Rattle.core_cpu.specs.declared.phase.Phase.{Phase}

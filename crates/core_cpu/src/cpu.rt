@@ -12,6 +12,7 @@ ghost use Rattle.core_cpu.specs.Nearness.{nearness};
 ghost use Rattle.core_cpu.specs.declared.phase.Phase.TheVariants.{Over, Ready};
 ghost use Rattle.core_cpu.specs.declared.stop.Stop.TheVariants.{Ended};
 ghost use Rattle.core_isa.specs.Runs.{step, boot as booted};
+ghost use Rattle.core_cpu.specs.Roots.{root_place};
 ghost use Rattle.core_isa.specs.declared.code.CodeFunction.{CodeFunction};
 
 use crate::answer::answer;
@@ -139,13 +140,15 @@ impl<'a> Cpu<'a> {
         self.phase = answer(&mut self.state, purpose, reply);
     }
 
-    fn plays(&self) -> bool
+    /// Whether a recording is played that has an output left to ask for, or its end: `play_on` goes on with it.
+    pub fn plays(&self) -> bool
         ensures { result ≡ is_playing self.now.phase }
     {
         matches!(&self.phase, Phase::Playing(_))
     }
 
-    fn ready(&self) -> bool
+    /// Whether an instruction comes next: `step` runs it.
+    pub fn ready(&self) -> bool
         ensures { result ≡ is_ready self.now.phase }
     {
         matches!(&self.phase, Phase::Ready)
@@ -165,8 +168,8 @@ impl<'a> Cpu<'a> {
         }
     }
 
-    // Goes on with a recording that is played: asks for its next output, comes behind it, or ends.
-    fn play_on(&mut self) -> Option<Request>
+    /// Goes on with a recording that is played: asks for its next output, comes behind it, or ends.
+    pub fn play_on(&mut self) -> Option<Request>
         requires { IsTrue (is_playing self.old.phase) }
         ensures code { self.new.code ≡ self.old.code }
         ensures goes { (more : List Reply) (before : List Request) →
@@ -218,8 +221,9 @@ impl<'a> Cpu<'a> {
         self.phase = after(way);
     }
 
-    // Runs the instruction at its place. Where there is no memory for it nothing has happened.
-    fn step(&mut self, alloc: Global) -> Result<Option<Request>, AllocError>
+    /// Runs the instruction at its place, and gives the request that it asks. The only error is want of memory, and then
+    /// nothing has happened.
+    pub fn step(&mut self, alloc: Global) -> Result<Option<Request>, AllocError>
         requires { IsTrue (is_ready self.old.phase) }
         ensures code { self.new.code ≡ self.old.code }
         ensures goes { IfOk result (λ asks. (more : List Reply) (before : List Request) →
@@ -272,5 +276,21 @@ impl<'a> Cpu<'a> {
         ensures { result ≡ self.now.machine.units }
     {
         self.state.units()
+    }
+
+    /// The place in the code of the instruction at which it stands: where a request waits, or a recording is played, that of
+    /// the instruction that asked.
+    pub fn place(&self) -> u32
+        ensures { result ≡ self.now.machine.top.place }
+    {
+        self.state.place()
+    }
+
+    /// The place in the code at which the function stands that the run began with: in a called function, that of the call
+    /// under which it runs.
+    pub fn root(&self) -> u32
+        ensures { result ≡ root_place self.now.machine }
+    {
+        self.state.root()
     }
 }

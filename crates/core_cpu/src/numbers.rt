@@ -2,6 +2,7 @@
 
 ghost use Rattle.std.specs.Prelude.{◌≡◌, ◌+◌, ◌-◌, ◌<◌, ◌≤◌, ◌^◌, min, suc, true, false};
 ghost use Rattle.core_isa.specs.Machine.{at_place};
+ghost use Rattle.core_cpu.specs.Roots.{root_place};
 
 use crate::state::State;
 
@@ -11,6 +12,19 @@ impl State {
         ensures { result ≡ self.now.machine.top.place }
     {
         self.here.place
+    }
+
+    /// The place at which the function stands that the run began with.
+    #[tactic(auto, using(crate::proofs::Roots::root_below))]
+    pub fn root(&self) -> u32
+        ensures { result ≡ root_place self.now.machine }
+    {
+        let count = self.callers.count();
+        if count == 0 {
+            self.here.place
+        } else {
+            self.callers.get(count - 1).place
+        }
     }
 
     /// Goes to a place of the function that runs.

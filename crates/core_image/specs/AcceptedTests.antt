@@ -1,5 +1,6 @@
 -- Which code is accepted, stated a second time for the proofs of a verifier: as tests, which compute.
-use Rattle.std.specs.Prelude.{◌≡◌, ℕ, ◌<◌, ◌≤◌, Bool, true, false, not, ◌&&◌, ◌==◌, nat_lt, nat_le, Option, Some, None, length, slice_get}
+use Rattle.std.specs.Prelude.{◌≡◌, ℕ, ◌<◌, ◌≤◌, Bool, true, false, not, ◌&&◌, ◌==◌}
+use Rattle.std.specs.Prelude.{nat_lt, nat_le, Option, Some, None, length, slice_get}
 use Rattle.core_isa.specs.Marks.{function_index}
 use Rattle.core_isa.specs.MarkTests.{is_right_place}
 use Rattle.core_isa.specs.declared.code.Code.{Code}

@@ -1,5 +1,6 @@
 -- Fields one after another, each of so many bytes and in its range, and the first wrong one of some bytes.
-use Rattle.std.specs.Prelude.{◌≡◌, ◌≢◌, ℕ, ◌<◌, ◌^◌, ◌⊎◌, List, [], ◌∷◌, ◌++◌, Bool, ◌&&◌, nat_le, IsTrue, length, take, slice_index}
+use Rattle.std.specs.Prelude.{◌≡◌, ◌≢◌, ℕ, ◌<◌, ◌^◌, ◌⊎◌, List, [], ◌∷◌, ◌++◌, Bool}
+use Rattle.std.specs.Prelude.{◌&&◌, nat_le, IsTrue, length, take, slice_index}
 use Rattle.std.specs.List.{concat}
 use Rattle.std.specs.Int.{Width, byte_len, from_le_bytes}
 
@@ -10,8 +11,8 @@ Bytes = List ℕ
 abbrev pub AreBytes : Bytes → Type 0
 AreBytes bytes = (i : ℕ) → slice_index bytes i < 2 ^ 8
 
--- What stands field after field: a field has so many bytes, which meet a test, and what follows it may go by these bytes.
--- Where no field follows, the fields give a value.
+-- What stands field after field: a field has so many bytes, which meet a test, and what
+-- follows it may go by these bytes. Where no field follows, the fields give a value.
 pub data Format (A : Type 0) : Type 0 where
   give : A → Format A
   field : (width : ℕ) → (test : Bytes → Bool) → (next : Bytes → Format A) → Format A

@@ -1,7 +1,9 @@
 -- The ranges of the fields of an image.
-use Rattle.std.specs.Prelude.{ℕ, ℤ, pos, negsuc, ◌<◌, ◌≤◌, ◌^◌, List, [], ◌∷◌, Bool, true, ◌&&◌, ◌==◌, nat_lt, nat_le, IsTrue, length, map}
+use Rattle.std.specs.Prelude.{ℕ, ℤ, pos, negsuc, ◌<◌, ◌≤◌, ◌^◌, List, [], ◌∷◌, Bool}
+use Rattle.std.specs.Prelude.{true, ◌&&◌, ◌==◌, nat_lt, nat_le, IsTrue, length, map}
 use Rattle.std.specs.List.{list_all}
-use Rattle.core_image.specs.Operands.{Operands, nothing, integer, one_byte, two_bytes, short, two_shorts, three_shorts, place, operands_of}
+use Rattle.core_image.specs.Operands.{Operands, nothing, integer, one_byte, two_bytes}
+use Rattle.core_image.specs.Operands.{short, two_shorts, three_shorts, place, operands_of}
 use Rattle.core_isa.specs.declared.code.Code.{Code}
 use Rattle.core_isa.specs.declared.code.CodeFunction.{CodeFunction}
 use Rattle.core_isa.specs.declared.code.CodeLine.{CodeLine}

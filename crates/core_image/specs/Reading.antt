@@ -1,10 +1,12 @@
 -- The fields of Table stated a second time, for the proofs of a decoder: an image is read from left to right, up to the
 -- first wrong field.
-use Rattle.std.specs.Prelude.{◌≡◌, ℕ, zero, suc, ◌+◌, ◌-◌, ◌^◌, ◌%◌, ◌/◌, List, [], ◌∷◌, Bool, ◌&&◌, ◌==◌, nat_le, length, take, drop, slice_index, Result, Ok, Err, if◌then◌else◌, bytes_eq}
+use Rattle.std.specs.Prelude.{◌≡◌, ℕ, zero, suc, ◌+◌, ◌-◌, ◌^◌, ◌%◌, ◌/◌, List, [], ◌∷◌, Bool, ◌&&◌, ◌==◌}
+use Rattle.std.specs.Prelude.{nat_le, length, take, drop, slice_index, Result, Ok, Err, if◌then◌else◌, bytes_eq}
 use Rattle.std.specs.List.{list_all}
 use Rattle.std.specs.Int.{Width, byte_len, from_le_bytes, w16, w32, w64, cast_signed}
 use Rattle.core_image.specs.Fields.{Bytes, Format, give, field, is_between}
-use Rattle.core_image.specs.Operands.{Operands, nothing, integer, one_byte, two_bytes, short, two_shorts, three_shorts, place, shape_of}
+use Rattle.core_image.specs.Operands.{Operands, nothing, integer, one_byte, two_bytes}
+use Rattle.core_image.specs.Operands.{short, two_shorts, three_shorts, place, shape_of}
 use Rattle.core_image.specs.Parts.{LineParts, ImageParts}
 use Rattle.core_image.specs.Spelling.{magic_bytes}
 use Rattle.core_image.specs.declared.operands.Shape.{Shape}

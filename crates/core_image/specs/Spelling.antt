@@ -3,7 +3,8 @@ use Rattle.std.specs.Prelude.{ℕ, ◌+◌, List, [], ◌∷◌, ◌++◌, lengt
 use Rattle.std.specs.List.{flat_map}
 use Rattle.std.specs.Int.{w16, w32, w64, to_le_bytes, cast_unsigned}
 use Rattle.core_image.specs.Fields.{Bytes}
-use Rattle.core_image.specs.Operands.{Operands, nothing, integer, one_byte, two_bytes, short, two_shorts, three_shorts, place}
+use Rattle.core_image.specs.Operands.{Operands, nothing, integer, one_byte, two_bytes}
+use Rattle.core_image.specs.Operands.{short, two_shorts, three_shorts, place}
 use Rattle.core_image.specs.Parts.{LineParts, ImageParts, parts_of}
 use Rattle.core_isa.specs.declared.code.Code.{Code}
 use Rattle.core_isa.specs.declared.code.CodeFunction.{CodeFunction}
@@ -39,7 +40,8 @@ operand_bytes (place p) = to_le_bytes w32 p
 abbrev pub line_bytes : LineParts → Bytes
 line_bytes line = (line.op ∷ line.mark.height ∷ line.mark.tries ∷ line.mark.rec ∷ []) ++ operand_bytes line.operands
 
--- what stands before all else: the four bytes, and how many functions, which one is main, how many names and instructions
+-- what stands before all else: the four bytes, and how many
+-- functions, which one is main, how many names and instructions
 abbrev pub head_bytes : (functions main names lines : ℕ) → Bytes
 head_bytes functions main names lines =
     magic_bytes ++ to_le_bytes w16 functions ++ to_le_bytes w16 main ++ to_le_bytes w16 names ++ to_le_bytes w32 lines

@@ -3,7 +3,8 @@ use Rattle.std.specs.Prelude.{ℕ, zero, suc, ◌+◌, ◌-◌, ◌^◌, ◌%◌
 use Rattle.std.specs.List.{list_all}
 use Rattle.std.specs.Int.{w16, w32, w64, cast_signed}
 use Rattle.core_image.specs.Fields.{Bytes, Format, give, field, ◌>>=◌, byte, number}
-use Rattle.core_image.specs.Operands.{Operands, nothing, integer, one_byte, two_bytes, short, two_shorts, three_shorts, place, shape_of}
+use Rattle.core_image.specs.Operands.{Operands, nothing, integer, one_byte, two_bytes}
+use Rattle.core_image.specs.Operands.{short, two_shorts, three_shorts, place, shape_of}
 use Rattle.core_image.specs.Parts.{LineParts, ImageParts}
 use Rattle.core_image.specs.Spelling.{magic_bytes}
 use Rattle.core_image.specs.declared.operands.Shape.{Shape}

@@ -1,5 +1,7 @@
--- Two numbers that show that every run of marked code ends: at each step the first falls, or it stays and the second falls.
-use Rattle.std.specs.Prelude.{◌≡◌, ℕ, ◌+◌, ◌-◌, ◌*◌, ◌^◌, ◌<◌, ◌⊎◌, List, length, ℤ, sum_by, if◌then◌else◌, slice_get, Some}
+-- Two numbers that show that every run of marked code ends: at
+-- each step the first falls, or it stays and the second falls.
+use Rattle.std.specs.Prelude.{◌≡◌, ℕ, ◌+◌, ◌-◌, ◌*◌, ◌^◌, ◌<◌, ◌⊎◌, List}
+use Rattle.std.specs.Prelude.{length, ℤ, sum_by, if◌then◌else◌, slice_get, Some}
 use Rattle.rtio_types.specs.declared.request.Reply.{Reply}
 use Rattle.core_isa.specs.declared.code.Code.{Code}
 use Rattle.core_isa.specs.declared.code.CodeFunction.{CodeFunction}

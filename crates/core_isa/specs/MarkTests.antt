@@ -1,6 +1,7 @@
 -- The conditions of Marks stated a second time, as tests that compute, for the proofs of a verifier. The law
 -- `tests_decide_marks` says that they are the same.
-use Rattle.std.specs.Prelude.{ℕ, ◌+◌, ◌-◌, Bool, true, false, not, ◌||◌, ◌&&◌, ◌==◌, nat_le, nat_lt, length, slice_get, Option, Some, None}
+use Rattle.std.specs.Prelude.{ℕ, ◌+◌, ◌-◌, Bool, true, false, not, ◌||◌, ◌&&◌, ◌==◌}
+use Rattle.std.specs.Prelude.{nat_le, nat_lt, length, slice_get, Option, Some, None}
 use Rattle.rtio_types.specs.declared.board.ChannelKind.{ChannelKind}
 use Rattle.rtio_types.specs.declared.board.ChannelKind.TheVariants as K
 use Rattle.rtio_types.specs.Board.{kind_of_channel, has_address, is_input}
@@ -10,7 +11,8 @@ use Rattle.core_isa.specs.declared.code.CodeLine.{CodeLine}
 use Rattle.core_isa.specs.declared.code.Mark.{Mark}
 use Rattle.core_isa.specs.declared.instr.Instr.{Instr}
 use Rattle.core_isa.specs.declared.instr.Instr.TheVariants as I
-use Rattle.core_isa.specs.Marks.{values_of, function_index, mark_at, effect, is_live, takes_unit_first, after, first_mark}
+use Rattle.core_isa.specs.Marks.{values_of, function_index, mark_at, effect}
+use Rattle.core_isa.specs.Marks.{is_live, takes_unit_first, after, first_mark}
 
 -- this mark is found
 abbrev pub is_mark : Mark → Option Mark → Bool

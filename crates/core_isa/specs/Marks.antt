@@ -1,5 +1,6 @@
 -- Code whose marks are right, and which therefore never lacks an operand, a handler or a recording.
-use Rattle.std.specs.Prelude.{◌≡◌, ℕ, ◌+◌, ◌-◌, ◌<◌, ◌≤◌, ◌⊎◌, Bool, true, false, not, ◌||◌, ◌==◌, IsTrue, nat_le, if◌then◌else◌, length, count_by, slice_get, Option, Some, None, option_map}
+use Rattle.std.specs.Prelude.{◌≡◌, ℕ, ◌+◌, ◌-◌, ◌<◌, ◌≤◌, ◌⊎◌, Bool, true, false, not, ◌||◌, ◌==◌, IsTrue}
+use Rattle.std.specs.Prelude.{nat_le, if◌then◌else◌, length, count_by, slice_get, Option, Some, None, option_map}
 use Rattle.rtio_types.specs.Board.{kind_of_channel, has_address}
 use Rattle.rtio_types.specs.declared.board.ChannelKind.TheVariants as K
 use Rattle.core_isa.specs.declared.code.Code.{Code}

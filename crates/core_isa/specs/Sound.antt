@@ -1,5 +1,6 @@
 -- What holds of every state of a run of marked code.
-use Rattle.std.specs.Prelude.{◌≡◌, ◌≢◌, ℕ, ◌+◌, ◌≤◌, List, [], ◌∷◌, length, ℤ, Bool, true, false, not, ◌||◌, ◌==◌, nat_le, nat_lt, if◌then◌else◌, slice_get, Option, Some, None}
+use Rattle.std.specs.Prelude.{◌≡◌, ◌≢◌, ℕ, ◌+◌, ◌≤◌, List, [], ◌∷◌, length, ℤ, Bool, true, false, not}
+use Rattle.std.specs.Prelude.{◌||◌, ◌==◌, nat_le, nat_lt, if◌then◌else◌, slice_get, Option, Some, None}
 use Rattle.rtio_types.specs.declared.request.Reply.{Reply}
 use Rattle.core_isa.specs.declared.code.Code.{Code}
 use Rattle.core_isa.specs.declared.code.CodeFunction.{CodeFunction}
@@ -22,7 +23,8 @@ pub record StandsAt (code : Code) (index place height tries rec : ℕ) : Type 0 
   pub same : function_index code place ≡ index
   pub marked : mark_at code place ≡ Some (record { height = height; tries = tries; rec = rec })
 
--- the recording that a handler finds open in its frame: that of the frame, if it was opened before the handler was added
+-- the recording that a handler finds open in its frame: that
+-- of the frame, if it was opened before the handler was added
 abbrev pub rec_below : (rec tries : ℕ) → ℕ
 rec_below rec tries = if nat_le rec (tries + 1) then rec else 0
 

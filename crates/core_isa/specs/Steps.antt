@@ -1,5 +1,7 @@
 -- What each instruction does.
-use Rattle.std.specs.Prelude.{ℕ, ◌+◌, ◌-◌, List, [], ◌∷◌, ◌++◌, length, take, drop, reverse, replicate, ℤ, pos, negsuc, ◌+ℤ◌, ◌-ℤ◌, ◌*ℤ◌, neg_ℤ, int_lt, int_le, Bool, true, false, not, nat_le, nat_lt, if◌then◌else◌, slice_get, slice_set, Option, Some, None, is_some}
+use Rattle.std.specs.Prelude.{ℕ, ◌+◌, ◌-◌, List, [], ◌∷◌, ◌++◌, length, take, drop, reverse, replicate, ℤ, pos}
+use Rattle.std.specs.Prelude.{negsuc, ◌+ℤ◌, ◌-ℤ◌, ◌*ℤ◌, neg_ℤ, int_lt, int_le, Bool, true, false, not, nat_le}
+use Rattle.std.specs.Prelude.{nat_lt, if◌then◌else◌, slice_get, slice_set, Option, Some, None, is_some}
 use Rattle.std.specs.Int.{w32, w64, int_wrap, int_max, int_shr, int_bit_and, int_bit_or, int_bit_xor}
 use Rattle.std.specs.Ordering.{int_eq}
 use Rattle.rtio_types.specs.declared.event.Event.{Event}
@@ -10,14 +12,17 @@ use Rattle.rtio_types.specs.declared.request.Request.TheVariants as Q
 use Rattle.rtio_types.specs.declared.request.Reply.{Reply}
 use Rattle.rtio_types.specs.declared.request.Reply.TheVariants as R
 use Rattle.rtio_types.specs.declared.request.Value.TheVariants as W
-use Rattle.rtio_types.specs.Integers.{number_of, is_true, floor_quotient, floor_remainder, nonzero, shift_distance, shift_factor, low_bits}
+use Rattle.rtio_types.specs.Integers.{number_of, is_true, floor_quotient, floor_remainder}
+use Rattle.rtio_types.specs.Integers.{nonzero, shift_distance, shift_factor, low_bits}
 use Rattle.rtio_types.specs.Replies.{number_in}
 use Rattle.rtio_types.specs.Time.{later, shifted}
 use Rattle.core_isa.specs.declared.code.Code.{Code}
 use Rattle.core_isa.specs.declared.code.CodeFunction.{CodeFunction}
 use Rattle.core_isa.specs.declared.instr.Instr.{Instr}
 use Rattle.core_isa.specs.declared.instr.Instr.TheVariants as I
-use Rattle.core_isa.specs.Machine.{HandlerPoint, Frame, OpenRecording, Machine, returned, Next, goes, ends, stuck, with_top, with_operands, with_slots, at_place, next, push, exception_of, raise, unit_then, ask_then, request_then}
+use Rattle.core_isa.specs.Machine.{HandlerPoint, Frame, OpenRecording, Machine, returned, Next, goes}
+use Rattle.core_isa.specs.Machine.{ends, stuck, with_top, with_operands, with_slots, at_place, next}
+use Rattle.core_isa.specs.Machine.{push, exception_of, raise, unit_then, ask_then, request_then}
 
 -- goes on with the first of these operands
 abbrev pub on_first : List ℤ → (ℤ → Machine → Next) → Machine → Next

@@ -3,14 +3,15 @@ use Rattle.std.specs.Prelude.{ℕ, List, [], ◌∷◌, pos, false}
 use Rattle.core_isa.specs.declared.code.Code.{Code}
 use Rattle.core_isa.specs.declared.code.CodeLine.{CodeLine}
 use Rattle.core_isa.specs.declared.instr.Instr.{Instr}
-use Rattle.core_isa.specs.declared.instr.Instr.TheVariants.{Const, Load, Store, Add, Mul, Wrap32, Lt, Jump, JumpZero, Turn, At, Return}
+use Rattle.core_isa.specs.declared.instr.Instr.TheVariants.{Const, Load, Store, Add, Mul, Wrap32}
+use Rattle.core_isa.specs.declared.instr.Instr.TheVariants.{Lt, Jump, JumpZero, Turn, At, Return}
 
 -- an instruction before which the frame has so many operands, and neither handlers nor a recording
 abbrev pub line : ℕ → Instr → CodeLine
 line height instr = record { instr = instr; mark = record { height = height; tries = 0; rec = 0 } }
 
--- slot 0 is a value from 1 on. In each of so many turns, which slot 1 counts, it is multiplied, added to and wrapped to 32
--- bits. At the end it is put into the cursor
+-- slot 0 is a value from 1 on. In each of so many turns, which slot 1 counts, it is
+-- multiplied, added to and wrapped to 32 bits. At the end it is put into the cursor
 abbrev pub loop_lines : ℕ → List CodeLine
 loop_lines turns =
     line 0 (Const (pos 1))

@@ -15,7 +15,8 @@ pub record Opened (F : Type 0) : Type 0 where
   pub fixed : F
   pub chairs : ℕ
 
--- a chair: its desk, its number, what it has seen of the history, what it put, the numbers that its lost tries read, and whether it has taken and holds the value
+-- a chair: its desk, its number, what it has seen of the history, what it put, the
+-- numbers that its lost tries read, and whether it has taken and holds the value
 pub record Seated (A F : Type 0) : Type 0 where
   pub desk : DeskId F
   pub number : ℕ
@@ -60,7 +61,8 @@ module _ {A F : Type 0} where
   abbrev pub Puts : Seated A F → List (ℕ × A) → Seated A F → Type 0
   Puts c log d = (acts : List A) × (log ≡ c.seen ++ entries_by c.number acts) × (d ≡ record c { seen = log; own = c.own ++ acts; holds = false })
 
-  -- The chair has seen the longer of what it and the note's teller had seen, and both begin it. Where it holds the value, it had seen that much
+  -- The chair has seen the longer of what it and the note's teller had seen,
+  -- and both begin it. Where it holds the value, it had seen that much
   pub record Hears (c : Seated A F) (told : List (ℕ × A)) (d : Seated A F) : Type 0 where
     pub now : d ≡ record c { seen = longer c.seen told }
     pub mine : IsPrefix c.seen d.seen

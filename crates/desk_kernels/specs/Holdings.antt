@@ -23,11 +23,13 @@ use Rattle.desk_kernels.specs.Chairs.{CoreChair, IsAt, KnowsItsOwn, core_entries
 use Rattle.desk_kernels.specs.declared.starting.Opening.{Opening}
 use Rattle.desk_kernels.specs.declared.starting.Opening.TheVariants.{Begun, Busy}
 
--- the core as far as the chair knows it: with the history that it has seen, at the counter of the last entry, and no request waits
+-- the core as far as the chair knows it: with the history that it
+-- has seen, at the counter of the last entry, and no request waits
 abbrev pub core_as_seen : Config → CoreChair → CoreState
 core_as_seen config c = record { config = config; history = core_entries c.seen; counter = last_at (core_entries c.seen); waiting = None }
 
--- the chair is at the desk and holds nothing; of its own it has seen just what it put; and what it has seen could be asked of a core
+-- the chair is at the desk and holds nothing; of its own it has seen
+-- just what it put; and what it has seen could be asked of a core
 pub record IsReady (desk : Opened Config) (c : CoreChair) : Type 0 where
   pub at : IsAt desk c
   pub knows : KnowsItsOwn c
@@ -39,8 +41,8 @@ pub record GoesOn (desk : Opened Config) (old new : CoreChair) : Type 0 where
   pub later : IsPrefix old.seen new.seen
   pub ready : IsReady desk new
 
--- In one holding the chair found a core that was so, which goes on from what it had seen, without an act of its own that it hadn't put;
--- and it put the core back so
+-- In one holding the chair found a core that was so, which goes on from what it had
+-- seen, without an act of its own that it hadn't put; and it put the core back so
 pub record Holds (desk : Opened Config) (old : CoreChair) (was now : CoreState) (new : CoreChair) : Type 0 where
   pub known : IsCore was
   pub config : was.config ≡ desk.fixed

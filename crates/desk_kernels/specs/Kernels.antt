@@ -14,8 +14,8 @@ use Rattle.lab_kernels.specs.Kernels.{result_of}
 pub use Rattle.lab_kernels.specs.Meanings.{IsKernelSession}
 use Rattle.desk_kernels.specs.Chairs.{CoreChair}
 
--- The chair found a history which goes on from what it had seen, without an act of its own that it hadn't put. Behind that it put one session
--- of the kernel, and nothing else stands there; and the result is that of the session
+-- The chair found a history which goes on from what it had seen, without an act of its own that it hadn't put. Behind
+-- that it put one session of the kernel, and nothing else stands there; and the result is that of the session
 pub record RunsKernelAt (program : ProgramTree) (code : Code) (units : ℕ) (of : StartOf) (config : Config) (old new : CoreChair) (result : KernelResult) : Type 0 where
   pub before : List Entry
   pub k : KernelRun

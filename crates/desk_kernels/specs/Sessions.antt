@@ -23,8 +23,9 @@ use Rattle.lab_kernels.specs.Standing.{IsUnderWay, entries_so_far, history_of}
 use Rattle.desk_kernels.specs.Chairs.{CoreChair, core_entries}
 use Rattle.desk_kernels.specs.Holdings.{core_as_seen}
 
--- The session has ended so, and with its end all that was seen ends: its requests, outcome and cursor are those of the run under its
--- replies, of which the processor tells the number of instructions. How much later than the last request it ended is left open
+-- The session has ended so, and with its end all that was seen ends: its requests,
+-- outcome and cursor are those of the run under its replies, of which the processor tells
+-- the number of instructions. How much later than the last request it ended is left open
 pub record HasClosedAt (chair : ℕ) (s : Session) (asked : List Answered) (seen : List Entry) (now : Moment) (sets : List DataSet) (how : Outcome) : Type 0 where
   pub cursor : ℤ
   pub at : ℕ
@@ -47,8 +48,9 @@ LeadsAt config s asked c now sets (Some how) = HasClosedAt c.number s asked (cor
 abbrev pub HasPlayedAt : Session → CoreChair → Moment → List DataSet → Outcome → Type 0
 HasPlayedAt s c now sets how = (asked : List Answered) × HasClosedAt c.number s asked (core_entries c.seen) now sets how
 
--- The code was run as a session of the chair, which found a history that goes on from what it had seen, without an act of its own that it
--- hadn't put. Behind that stands the session, and nothing else; and the result is that of the session
+-- The code was run as a session of the chair, which found a history that goes on
+-- from what it had seen, without an act of its own that it hadn't put. Behind that
+-- stands the session, and nothing else; and the result is that of the session
 pub record RunsCodeAt (code : Code) (units : ℕ) (of : StartOf) (config : Config) (old new : CoreChair) (result : KernelResult) : Type 0 where
   pub before : List Entry
   pub k : KernelRun

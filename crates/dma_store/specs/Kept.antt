@@ -1,5 +1,7 @@
 -- Recordings kept by name, in the order of first saving.
-use Rattle.std.specs.Prelude.{ℕ, ◌+◌, ◌*◌, ◌%◌, ◌^◌, Bool, not, ◌&&◌, ◌||◌, List, [], ◌∷◌, ◌++◌, length, filter, find, position, slice_get, map, bytes_eq, nat_le, ℤ, pos, if◌then◌else◌, Option, None, option_map, unsigned_abs}
+use Rattle.std.specs.Prelude.{ℕ, ◌+◌, ◌*◌, ◌%◌, ◌^◌, Bool, not, ◌&&◌, ◌||◌, List, [], ◌∷◌, ◌++◌}
+use Rattle.std.specs.Prelude.{length, filter, find, position, slice_get, map, bytes_eq, nat_le}
+use Rattle.std.specs.Prelude.{ℤ, pos, if◌then◌else◌, Option, None, option_map, unsigned_abs}
 use Rattle.std.specs.List.{list_any}
 use Rattle.std.specs.Int.{int_div_euclid, int_rem_euclid}
 use Rattle.std.specs.Ordering.{int_eq}

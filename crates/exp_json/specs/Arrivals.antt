@@ -1,5 +1,6 @@
 -- The arrivals of a session.
-use Rattle.std.specs.Prelude.{ℕ, ◌-◌, ◌^◌, Bool, true, not, List, [], ◌∷◌, nat_le, length, codes, slice_get, Option, Some, None, count_by}
+use Rattle.std.specs.Prelude.{ℕ, ◌-◌, ◌^◌, Bool, true, not, List, [], ◌∷◌, nat_le}
+use Rattle.std.specs.Prelude.{length, codes, slice_get, Option, Some, None, count_by}
 use Rattle.serde_json.specs.Data.{Data}
 use Rattle.exp_model.specs.declared.arrival.Arrival.{Arrival}
 use Rattle.exp_model.specs.declared.arrival.ArrivalAct.TheVariants as A

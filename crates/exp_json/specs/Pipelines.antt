@@ -1,5 +1,6 @@
 -- Pipelines and the edges of their inputs.
-use Rattle.std.specs.Prelude.{◌-◌, ◌^◌, pos, Bool, true, ◌||◌, List, [], bytes_eq, codes, Option, Some, None, length, slice_get}
+use Rattle.std.specs.Prelude.{◌-◌, ◌^◌, pos, Bool, true, ◌||◌, List, [], bytes_eq}
+use Rattle.std.specs.Prelude.{codes, Option, Some, None, length, slice_get}
 use Rattle.serde_json.specs.Data.{Data}
 use Rattle.rtio_types.specs.declared.event.Edge.{Edge}
 use Rattle.exp_model.specs.declared.session.Pipeline.{Pipeline}

@@ -1,5 +1,6 @@
 -- The steps of experiments, and submissions.
-use Rattle.std.specs.Prelude.{ℕ, ◌^◌, negsuc, pos, Bool, true, false, ◌&&◌, ◌||◌, ◌==◌, List, length, nat_le, nat_lt, int_le, slice_index}
+use Rattle.std.specs.Prelude.{ℕ, ◌^◌, negsuc, pos, Bool, true, false, ◌&&◌, ◌||◌}
+use Rattle.std.specs.Prelude.{◌==◌, List, length, nat_le, nat_lt, int_le, slice_index}
 use Rattle.std.specs.List.{list_all}
 use Rattle.rtio_types.specs.Names.{is_word_byte}
 use Rattle.rtio_types.specs.declared.request.Value.{Value}

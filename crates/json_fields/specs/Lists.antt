@@ -35,7 +35,7 @@ item_needed i d = found_or (item_at i d) K.Range
 abbrev pub element : {A : Type 0} → ℕ → (Data → Reading A) → Data → Reading A
 element i kind d = item_needed i d >>= (λ value. within (P.Place i) (kind value))
 
--- how many items the list of a key has as it is given: none where it is absent or no list; the number stands still at the
--- end of its type
+-- how many items the list of a key has as it is given: none where it
+-- is absent or no list; the number stands still at the end of its type
 abbrev pub many : List ℕ → Data → ℕ
 many key d = min (2 ^ 32 - 1) (option_map_or items_len (option_and_then as_array (get key d)) 0)

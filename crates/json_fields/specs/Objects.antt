@@ -1,5 +1,6 @@
 -- Objects, the tables of their fields, and the order in which their faults are asked.
-use Rattle.std.specs.Prelude.{ℕ, Bool, not, List, [], ◌∷◌, ◌++◌, filter, bytes_eq, Option, Some, None, is_some, if◌then◌else◌, option_and_then}
+use Rattle.std.specs.Prelude.{ℕ, Bool, not, List, [], ◌∷◌, ◌++◌, filter, bytes_eq, Option}
+use Rattle.std.specs.Prelude.{Some, None, is_some, if◌then◌else◌, option_and_then}
 use Rattle.std.specs.List.{list_any}
 use Rattle.std.specs.Ordering.{nat_cmp, match_ordering}
 use Rattle.std.specs.Cmp.Lexicographic.{slice_cmp}

@@ -1,5 +1,6 @@
 -- Numbers, truth values and texts.
-use Rattle.std.specs.Prelude.{ℕ, ◌-◌, ◌^◌, ℤ, pos, negsuc, Bool, ◌&&◌, List, nat_lt, int_le, unsigned_abs, option_and_then}
+use Rattle.std.specs.Prelude.{ℕ, ◌-◌, ◌^◌, ℤ, pos, negsuc, Bool, ◌&&◌, List}
+use Rattle.std.specs.Prelude.{nat_lt, int_le, unsigned_abs, option_and_then}
 use Rattle.serde_json.specs.Data.{Data}
 use Rattle.serde_json.specs.Find.{as_bool, as_integer, as_number, as_str}
 use Rattle.json_fields.specs.declared.fault.FieldKind.TheVariants as K

@@ -1,4 +1,5 @@
--- For the proofs alone: the steps of the code that reads blocks, which are parts of the plans, and what its values stand for.
+-- For the proofs alone: the steps of the code that reads blocks,
+-- which are parts of the plans, and what its values stand for.
 use Rattle.std.specs.Prelude.{ℕ, List, [], ◌∷◌, Option, Some, codes, Ok}
 use Rattle.kern_syntax.specs.declared.statement.Elif.{Elif}
 use Rattle.kern_syntax.specs.declared.statement.Handler.{Handler}
@@ -6,12 +7,14 @@ use Rattle.kern_lexer.specs.Bytes.{Bytes}
 use Rattle.kern_syntax.specs.Tree.{Expression, if_then, while_do, try_do, line_then}
 use Rattle.kern_syntax.specs.Tree as Tree
 use Rattle.kern_syntax.specs.TreeOf.{elif_of, handler_of}
-use Rattle.kern_grammar.specs.BlockPlans.{line_phrase, line_stop, is_line, block_of_lines, a_block, ElifLine, branches_plan, ExceptLine, handlers_plan, with_plan, range_plan, line_plan}
+use Rattle.kern_grammar.specs.BlockPlans.{line_phrase, line_stop, is_line, block_of_lines, a_block, ElifLine}
+use Rattle.kern_grammar.specs.BlockPlans.{branches_plan, ExceptLine, handlers_plan, with_plan, range_plan, line_plan}
 use Rattle.kern_statements.specs.declared.headers.WithItem.{WithItem}
 use Rattle.kern_statements.specs.declared.headers.WithItem.TheVariants as W
 use Rattle.kern_grammar.specs.Plans.{Taken, ◌>>=◌, Plan, done, token, part, run, many, EachOf, EachEnds}
 use Rattle.kern_grammar.specs.SimplePlans.{an_expression, Line}
-use Rattle.kern_grammar.specs.Views.{dedented, indented, in_key, a_name, the_name, open_parenthesis, comma_or_close, a_with_item}
+use Rattle.kern_grammar.specs.Views.{dedented, indented, in_key, a_name, the_name}
+use Rattle.kern_grammar.specs.Views.{open_parenthesis, comma_or_close, a_with_item}
 
 -- one line as a block
 abbrev pub as_block : ℕ → Tree.Statement → Tree.Block

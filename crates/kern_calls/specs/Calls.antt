@@ -1,5 +1,6 @@
 -- The calls and methods that the language has of itself.
-use Rattle.std.specs.Prelude.{ℕ, List, [], ◌∷◌, Bool, true, false, if◌then◌else◌, Option, Some, None, option_map, bytes_eq, codes}
+use Rattle.std.specs.Prelude.{ℕ, List, [], ◌∷◌, Bool, true, false, if◌then◌else◌}
+use Rattle.std.specs.Prelude.{Option, Some, None, option_map, bytes_eq, codes}
 use Rattle.kern_syntax.specs.declared.program.DeclaredType.{DeclaredType}
 use Rattle.kern_syntax.specs.declared.program.DeclaredType.TheVariants.{Int32, Int64}
 use Rattle.rtio_types.specs.declared.board.ChannelKind.{ChannelKind}

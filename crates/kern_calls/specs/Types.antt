@@ -1,11 +1,16 @@
 -- The types of expressions and of names in a well-typed program.
-use Rattle.std.specs.Prelude.{ℕ, ◌^◌, List, [], ◌∷◌, ◌++◌, map, length, nat_lt, if◌then◌else◌, Option, Some, None, bytes_eq, find, is_some, option_and_then, unwrap_or}
+use Rattle.std.specs.Prelude.{ℕ, ◌^◌, List, [], ◌∷◌, ◌++◌, map, length, nat_lt, if◌then◌else◌, Option}
+use Rattle.std.specs.Prelude.{Some, None, bytes_eq, find, is_some, option_and_then, unwrap_or}
 use Rattle.std.specs.Int.{Width, w32, w64}
 use Rattle.kern_syntax.specs.declared.program.DeclaredType.{DeclaredType}
 use Rattle.kern_syntax.specs.declared.program.DeclaredType.TheVariants as D
 use Rattle.kern_syntax.specs.declared.expression.BinaryOperator.{BinaryOperator}
 use Rattle.kern_syntax.specs.declared.expression.BinaryOperator.TheVariants.{ShiftLeft, ShiftRight}
-use Rattle.kern_syntax.specs.Tree.{Bytes, Expression, integer, true_literal, false_literal, variable, element, group, unary, binary, compare, negation, conjunction, disjunction, call, method, Statement, assign, assign_repeated, assign_list, if_then, while_do, for_range, parallel, sequential, record_as, try_do, Block, done, line_then, Otherwise, no_else, else_do, elif_then, Handlers, no_handler, except_then, FunctionTree, ProgramTree}
+use Rattle.kern_syntax.specs.Tree.{Bytes, Expression, integer, true_literal, false_literal, variable, element, group}
+use Rattle.kern_syntax.specs.Tree.{unary, binary, compare, negation, conjunction, disjunction, call, method, Statement}
+use Rattle.kern_syntax.specs.Tree.{assign, assign_repeated, assign_list, if_then, while_do, for_range, parallel}
+use Rattle.kern_syntax.specs.Tree.{sequential, record_as, try_do, Block, done, line_then, Otherwise, no_else, else_do}
+use Rattle.kern_syntax.specs.Tree.{elif_then, Handlers, no_handler, except_then, FunctionTree, ProgramTree}
 use Rattle.kern_calls.specs.declared.types.ValueType.{ValueType}
 use Rattle.kern_calls.specs.declared.types.ValueType.TheVariants as V
 use Rattle.kern_calls.specs.declared.types.ValueType.TheVariants.{Int32, Int64}

@@ -30,7 +30,8 @@ abbrev pub passed : {A : Type 0} → Read A → Read (Unit {0})
 passed (Ok x) = Ok (tt, x.1)
 passed (Err left) = Err left
 
--- the form that a function gives, and the tokens behind it, are those of the expression that reading gives, and an end is the first fault
+-- the form that a function gives, and the tokens behind it, are those
+-- of the expression that reading gives, and an end is the first fault
 abbrev pub FindsForm : Result (Form × Tokens) WrongToken → Read Expression → Type 0
 FindsForm (Ok x) read = formed read ≡ Ok (x.0, symbols_left x.1)
 FindsForm (Err wrong) read = read ≡ Err (symbols_left wrong.left)

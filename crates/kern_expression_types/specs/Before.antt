@@ -6,8 +6,8 @@ use Rattle.kern_syntax.specs.Tree.{Bytes, ProgramTree}
 use Rattle.kern_calls.specs.Calls.{builtin_named}
 use Rattle.kern_calls.specs.Types.{function_named}
 
--- the functions that a statement may speak of: all of the program, whose names no variable has; those that may be called,
--- which are the earlier ones and the statement's own; and the names of those earlier ones that are plain
+-- the functions that a statement may speak of: all of the program, whose names no variable has; those that may be
+-- called, which are the earlier ones and the statement's own; and the names of those earlier ones that are plain
 pub record Functions : Type 0 where
   pub program : ProgramTree
   pub callable : ProgramTree

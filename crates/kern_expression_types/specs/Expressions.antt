@@ -4,7 +4,9 @@ use Rattle.std.specs.Prelude.{ℕ, List, [], ◌∷◌, length, Bool, not, ◌&&
 use Rattle.kern_syntax.specs.declared.expression.BinaryOperator.{BinaryOperator}
 use Rattle.kern_syntax.specs.declared.expression.Comparison.{Comparison}
 use Rattle.kern_syntax.specs.declared.program.DeclaredType.{DeclaredType}
-use Rattle.kern_syntax.specs.Tree.{Bytes, Expression, integer, true_literal, false_literal, variable, element, group, unary, binary, compare, negation, conjunction, disjunction, call, method, Arguments, no_more, value_then, text_then, FunctionTree}
+use Rattle.kern_syntax.specs.Tree.{Bytes, Expression, integer, true_literal, false_literal, variable, element}
+use Rattle.kern_syntax.specs.Tree.{group, unary, binary, compare, negation, conjunction, disjunction, call}
+use Rattle.kern_syntax.specs.Tree.{method, Arguments, no_more, value_then, text_then, FunctionTree}
 use Rattle.kern_calls.specs.declared.types.ValueType.TheVariants as V
 use Rattle.kern_expression_types.specs.declared.place.Given.{Given}
 use Rattle.kern_expression_types.specs.declared.place.Given.TheVariants.{Text, Typed}
@@ -14,10 +16,12 @@ use Rattle.kern_expression_types.specs.declared.place.Place.{Place}
 use Rattle.kern_expression_types.specs.declared.fault.TypeKind.TheVariants as K
 use Rattle.kern_calls.specs.declared.calls.Builtin.{Builtin}
 use Rattle.kern_calls.specs.declared.calls.Object.{Object}
-use Rattle.kern_calls.specs.Calls.{look_up, builtin_named, builtin_result, builtin_takes, builtin_is_live, object_named, method_of, operation_result, operation_takes, is_live}
+use Rattle.kern_calls.specs.Calls.{look_up, builtin_named, builtin_result, builtin_takes, builtin_is_live}
+use Rattle.kern_calls.specs.Calls.{object_named, method_of, operation_result, operation_takes, is_live}
 use Rattle.kern_calls.specs.Types.{Names, binary_type, literal_type, function_named}
 use Rattle.kern_expression_types.specs.Verdicts.{Verdict, well, ◌>>=◌, ◌>>◌, refuse_if, found_or}
-use Rattle.kern_expression_types.specs.Fits.{wanted_of, given_result, fit, fit_all, as_condition, as_integer, as_compared}
+use Rattle.kern_expression_types.specs.Fits.{wanted_of, given_result, fit, fit_all}
+use Rattle.kern_expression_types.specs.Fits.{as_condition, as_integer, as_compared}
 use Rattle.kern_expression_types.specs.Before.{Functions, is_in}
 
 -- the type of a name that is assigned
@@ -52,7 +56,8 @@ truth_verdict line left right = do
   well (Typed V.Bool)
 
 module _ (place : Place) where
-  -- a call of what takes this, gives that, and is live or not: the number of arguments, what each is, and then the place
+  -- a call of what takes this, gives that, and is live or not:
+  -- the number of arguments, what each is, and then the place
   abbrev pub call_verdict : List Wanted → Option DeclaredType → (live : Bool) → List Given → Verdict Given
   call_verdict wanted result live given = do
     refuse_if (not (length given == length wanted)) place.line K.Arity

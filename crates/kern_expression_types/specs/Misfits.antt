@@ -51,7 +51,8 @@ callee_verdict place (Err kind) given = fault place.line kind
 abbrev pub IsCalleeOf : Result Callee TypeKind → (Place → List Given → Verdict Given) → Type 0
 IsCalleeOf callee verdict = (place : Place) (given : List Given) → callee_verdict place callee given ≡ verdict place given
 
--- the verdict on a call of this, when it is known how many arguments there are and which fault the first has that doesn't fit
+-- the verdict on a call of this, when it is known how many arguments
+-- there are and which fault the first has that doesn't fit
 abbrev pub counted_verdict : Place → Result Callee TypeKind → (count : ℕ) → (misfit : Option TypeKind) → Verdict Given
 counted_verdict place (Ok callee) count misfit = do
   refuse_if (not (count == length (taken callee.takes))) place.line K.Arity

@@ -1,4 +1,5 @@
--- For the code alone, which enters a level only where an operator of it stands: at which levels what stands first and what follows is read.
+-- For the code alone, which enters a level only where an operator of it
+-- stands: at which levels what stands first and what follows is read.
 use Rattle.std.specs.Prelude.{ℕ, List, [], ◌∷◌, ◌&&◌, ◌==◌, nat_le, min, is_some, if◌then◌else◌}
 use Rattle.std.specs.Option.{unwrap_or}
 use Rattle.kern_lexer.specs.Symbols.{Symbol}
@@ -15,7 +16,8 @@ abbrev pub operator_level : List Symbol → ℕ
 operator_level [] = 0
 operator_level (s ∷ rest) = level_of_symbol s
 
--- the level at which what stands first is read: that of `not`, where it is there and the level is as loose, else that of prefixes
+-- the level at which what stands first is read: that of `not`, where
+-- it is there and the level is as loose, else that of prefixes
 abbrev pub front_level : ℕ → List Symbol → ℕ
 front_level level symbols = if nat_le 9 level && is_some (first_form not_at symbols) then 9 else min level 1
 

@@ -1,10 +1,15 @@
 -- For the proofs alone: the plans of reading again, as the code goes over them that keeps nothing.
 use Rattle.std.specs.Prelude.{ℕ, Bool, true, false, Option, [], ◌∷◌, Ok, Err, codes}
 use Rattle.kern_lexer.specs.Symbols.{Symbol, Lexeme}
-use Rattle.kern_grammar.specs.BlockPlans.{block_plan, comma_parameter, elif_plan, else_plan, except_plan, function_plan, is_elif, is_else, is_except, is_function, is_line, line_plan}
+use Rattle.kern_grammar.specs.BlockPlans.{block_plan, comma_parameter, elif_plan, else_plan, except_plan}
+use Rattle.kern_grammar.specs.BlockPlans.{function_plan, is_elif, is_else, is_except, is_function, is_line, line_plan}
 use Rattle.kern_grammar.specs.Plans.{Taker, ◌>>=◌, done, many, maybe, run}
 use Rattle.kern_grammar.specs.SimplePlans.{comma_element, is_comma, take_expression}
-use Rattle.kern_grammar.specs.Views.{a_name, a_number, a_type, any, arrow_or_colon, close_bracket, close_parenthesis, colon, comma_or_close, dedented, def_key, in_key, indented, is_seen, line_end, open_bracket, open_parenthesis, star_or_end, tail_of, the_name, Opening, passes, breaks, continues, returns, ifs, whiles, fors, withs, tries, opening, Tail, ends, assigns, augments}
+use Rattle.kern_grammar.specs.Views.{a_name, a_number, a_type, any, arrow_or_colon, close_bracket}
+use Rattle.kern_grammar.specs.Views.{close_parenthesis, colon, comma_or_close, dedented, def_key, in_key}
+use Rattle.kern_grammar.specs.Views.{indented, is_seen, line_end, open_bracket, open_parenthesis, star_or_end}
+use Rattle.kern_grammar.specs.Views.{tail_of, the_name, Opening, passes, breaks, continues, returns, ifs}
+use Rattle.kern_grammar.specs.Views.{whiles, fors, withs, tries, opening, Tail, ends, assigns, augments}
 use Rattle.kern_expressions.specs.TakenBy.{begins_with, first_seen, perform}
 use Rattle.kern_statements.specs.Headers.{with_item_plan}
 use Rattle.kern_expression_faults.specs.Forms.{formed_taken}

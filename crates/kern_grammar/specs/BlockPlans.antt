@@ -1,16 +1,25 @@
--- For the proofs alone: statements with blocks, functions and programs, which Blocks defines, stated again as plans of reading.
-use Rattle.std.specs.Prelude.{◌≡◌, ℕ, zero, suc, Bool, true, false, not, List, [], ◌∷◌, Option, Some, None, IsTrue, codes}
+-- For the proofs alone: statements with blocks, functions and
+-- programs, which Blocks defines, stated again as plans of reading.
+use Rattle.std.specs.Prelude.{◌≡◌, ℕ, zero, suc, Bool, true, false, not, List}
+use Rattle.std.specs.Prelude.{[], ◌∷◌, Option, Some, None, IsTrue, codes}
 use Rattle.kern_lexer.specs.Bytes.{Bytes}
 use Rattle.kern_lexer.specs.Symbols.{Symbol, Lexeme}
 use Rattle.kern_syntax.specs.declared.program.DeclaredType.{DeclaredType}
 use Rattle.kern_syntax.specs.Grammatical.{has_statement, IsStatement, AreLines, IsFunction}
-use Rattle.kern_syntax.specs.Tree.{Expression, Statement, if_then, while_do, for_range, parallel, sequential, record_as, try_do, Block, line_then, Otherwise, no_else, else_do, elif_then, Handlers, no_handler, except_then, ParameterTree, FunctionTree, ProgramTree}
+use Rattle.kern_syntax.specs.Tree.{Expression, Statement, if_then, while_do, for_range, parallel, sequential}
+use Rattle.kern_syntax.specs.Tree.{record_as, try_do, Block, line_then, Otherwise, no_else, else_do, elif_then}
+use Rattle.kern_syntax.specs.Tree.{Handlers, no_handler, except_then, ParameterTree, FunctionTree, ProgramTree}
 use Rattle.kern_syntax.specs.Tree as Tree
 use Rattle.kern_grammar.specs.Blocks.{body, lines, statement, function}
 use Rattle.kern_grammar.specs.Phrases.{on_line}
-use Rattle.kern_grammar.specs.Plans.{Taker, Plan, done, token, peek, part, last, run, Spells, many, EachOf, ends_with, EachEnds, maybe, MaybeOf, MaybeEnds}
+use Rattle.kern_grammar.specs.Plans.{Taker, Plan, done, token, peek, part, last, run, Spells}
+use Rattle.kern_grammar.specs.Plans.{many, EachOf, ends_with, EachEnds, maybe, MaybeOf, MaybeEnds}
 use Rattle.kern_grammar.specs.SimplePlans.{an_expression, Line, simple_plan, simple_line_plan}
-use Rattle.kern_grammar.specs.Views.{line_end, indented, dedented, text_end, colon, comma, dot, at_sign, open_parenthesis, close_parenthesis, in_key, def_key, elif_key, else_key, except_key, is_seen, a_name, a_text, the_name, a_type, WithItem, in_parallel, in_sequence, recording, a_with_item, comma_or_close, arrow_or_colon, Opening, ifs, whiles, fors, withs, tries, opening, any}
+use Rattle.kern_grammar.specs.Views.{line_end, indented, dedented, text_end, colon, comma, dot, at_sign}
+use Rattle.kern_grammar.specs.Views.{open_parenthesis, close_parenthesis, in_key, def_key, elif_key, else_key}
+use Rattle.kern_grammar.specs.Views.{except_key, is_seen, a_name, a_text, the_name, a_type, WithItem}
+use Rattle.kern_grammar.specs.Views.{in_parallel, in_sequence, recording, a_with_item, comma_or_close}
+use Rattle.kern_grammar.specs.Views.{arrow_or_colon, Opening, ifs, whiles, fors, withs, tries, opening, any}
 
 -- the tokens of a statement with its line, with room for so many blocks in one another
 abbrev pub line_phrase : (room : ℕ) → Line → List Lexeme → Type 0

@@ -6,7 +6,9 @@ use Rattle.kern_lexer.specs.declared.token.Key.TheVariants as K
 use Rattle.kern_lexer.specs.declared.token.Sign.TheVariants as S
 use Rattle.kern_syntax.specs.declared.program.DeclaredType.{DeclaredType}
 use Rattle.kern_syntax.specs.Print.{name_of_type}
-use Rattle.kern_syntax.specs.Tree.{Expression, Statement, if_then, while_do, for_range, parallel, sequential, record_as, try_do, Block, done, line_then, Otherwise, no_else, else_do, elif_then, Handlers, no_handler, except_then, ParameterTree, FunctionTree, ProgramTree}
+use Rattle.kern_syntax.specs.Tree.{Expression, Statement, if_then, while_do, for_range, parallel, sequential}
+use Rattle.kern_syntax.specs.Tree.{record_as, try_do, Block, done, line_then, Otherwise, no_else, else_do, elif_then}
+use Rattle.kern_syntax.specs.Tree.{Handlers, no_handler, except_then, ParameterTree, FunctionTree, ProgramTree}
 use Rattle.kern_grammar.specs.Expressions.{expression_symbols, in_parentheses, comma_before}
 use Rattle.kern_grammar.specs.Phrases.{Phrase, these, ◌⨾◌, ◌∣◌, on_line, simple_line, one_line}
 

@@ -3,7 +3,9 @@ use Rattle.std.specs.Prelude.{List, [], ◌∷◌, ◌++◌, codes, unwrap_or}
 use Rattle.kern_lexer.specs.Symbols.{Symbol, name, key, sign, newline, indent, dedent, end}
 use Rattle.kern_lexer.specs.declared.token.Key.TheVariants as K
 use Rattle.kern_lexer.specs.declared.token.Sign.TheVariants as S
-use Rattle.kern_syntax.specs.Tree.{Statement, if_then, while_do, for_range, parallel, sequential, record_as, try_do, Block, done, line_then, Otherwise, no_else, else_do, elif_then, Handlers, no_handler, except_then, FunctionTree, ProgramTree}
+use Rattle.kern_syntax.specs.Tree.{Statement, if_then, while_do, for_range, parallel, sequential}
+use Rattle.kern_syntax.specs.Tree.{record_as, try_do, Block, done, line_then, Otherwise, no_else, else_do}
+use Rattle.kern_syntax.specs.Tree.{elif_then, Handlers, no_handler, except_then, FunctionTree, ProgramTree}
 use Rattle.kern_grammar.specs.Expressions.{expression_symbols}
 use Rattle.kern_grammar.specs.Simple.{simple_symbols}
 use Rattle.kern_grammar.specs.Blocks.{range_symbols, record_symbols, function_symbols}

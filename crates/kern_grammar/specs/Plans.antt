@@ -1,5 +1,7 @@
--- For the proofs alone, no definition of the grammar: plans of reading, which tokens are taken one after another, by what comes next.
-use Rattle.std.specs.Prelude.{◌≡◌, ℕ, zero, suc, ◌-◌, List, [], ◌∷◌, ◌++◌, Bool, true, Option, Some, None, Result, Ok, Err, length, drop, not, if◌then◌else◌}
+-- For the proofs alone, no definition of the grammar: plans of reading,
+-- which tokens are taken one after another, by what comes next.
+use Rattle.std.specs.Prelude.{◌≡◌, ℕ, zero, suc, ◌-◌, List, [], ◌∷◌, ◌++◌, Bool, true, Option}
+use Rattle.std.specs.Prelude.{Some, None, Result, Ok, Err, length, drop, not, if◌then◌else◌}
 use Rattle.kern_lexer.specs.Symbols.{Symbol, Lexeme}
 use Rattle.kern_grammar.specs.Phrases.{symbols_of, ◌⨾◌}
 use Rattle.kern_grammar.specs.Reading.{Read, choose}
@@ -16,7 +18,8 @@ abbrev pub ◌>>=◌ : {A B : Type 0} → Taken A → (A × List Lexeme → Take
 (Ok x) >>= f = f x
 (Err left) >>= f = Err left
 
--- A plan: what is read is there; a token that is seen as something; a look at the next token, which stays; a part that another taker reads; a last part
+-- A plan: what is read is there; a token that is seen as something; a look at
+-- the next token, which stays; a part that another taker reads; a last part
 pub data Plan (A : Type 0) : Type 1 where
   done : A → Plan A
   token : {V : Type 0} → (view : Symbol → Option V) → (next : V → Plan A) → Plan A
@@ -94,7 +97,8 @@ EachEnds stop test [] rest = ends_with test rest ≡ true
 EachEnds stop test (x ∷ []) rest = stop x rest × (ends_with test rest ≡ true)
 EachEnds stop test (x ∷ y ∷ more) rest = EachEnds stop test (y ∷ more) rest
 
--- one item where a symbol passes the first test, none where it passes neither, and a fault where it passes the second alone
+-- one item where a symbol passes the first test, none where it
+-- passes neither, and a fault where it passes the second alone
 abbrev pub maybe : {X : Type 0} → (test bar : Symbol → Bool) → Taker X → Taker (Option X)
 maybe test bar take [] = Ok (None, [])
 maybe test bar take (t ∷ rest) = if test t.symbol then (do

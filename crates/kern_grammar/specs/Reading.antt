@@ -1,5 +1,7 @@
--- For the proofs alone: expressions, whose tokens Expressions defines, stated again as reading from the front of symbols, which gives the tree and what follows it, or what is left from the first wrong symbol on.
-use Rattle.std.specs.Prelude.{ℕ, zero, suc, List, [], ◌∷◌, Bool, true, false, ◌==◌, Option, Some, None, Result, Ok, Err, length, drop, if◌then◌else◌}
+-- For the proofs alone: expressions, whose tokens Expressions defines, stated again as reading from the front of
+-- symbols, which gives the tree and what follows it, or what is left from the first wrong symbol on.
+use Rattle.std.specs.Prelude.{ℕ, zero, suc, List, [], ◌∷◌, Bool, true, false, ◌==◌, Option}
+use Rattle.std.specs.Prelude.{Some, None, Result, Ok, Err, length, drop, if◌then◌else◌}
 use Rattle.kern_lexer.specs.Bytes.{Bytes}
 use Rattle.kern_lexer.specs.Symbols.{Symbol, name, key, number, quoted, sign}
 use Rattle.kern_lexer.specs.declared.token.Key.TheVariants as K
@@ -7,7 +9,8 @@ use Rattle.kern_lexer.specs.declared.token.Sign.TheVariants as S
 use Rattle.kern_syntax.specs.declared.expression.Comparison.{Comparison}
 use Rattle.kern_syntax.specs.declared.expression.UnaryOperator.{UnaryOperator}
 use Rattle.kern_syntax.specs.declared.expression.UnaryOperator.TheVariants as U
-use Rattle.kern_syntax.specs.Tree.{Expression, integer, true_literal, false_literal, variable, element, group, unary, compare, negation, call, method, Arguments, no_more, value_then, text_then}
+use Rattle.kern_syntax.specs.Tree.{Expression, integer, true_literal, false_literal, variable, element, group, unary}
+use Rattle.kern_syntax.specs.Tree.{compare, negation, call, method, Arguments, no_more, value_then, text_then}
 use Rattle.kern_grammar.specs.Operators.{join, comparison_of, first_joiner, stops}
 
 -- what was read and what follows it, or what is left from the first wrong symbol on

@@ -6,7 +6,8 @@ use Rattle.kern_lexer.specs.declared.token.Sign.{Sign}
 use Rattle.kern_lexer.specs.declared.token.Sign.TheVariants as S
 use Rattle.kern_syntax.specs.declared.statement.Augment.{Augment}
 use Rattle.kern_syntax.specs.declared.statement.Augment.TheVariants as A
-use Rattle.kern_syntax.specs.Tree.{Expression, Statement, pass, break, continue, return, evaluate, assign, assign_element, augment, augment_element, assign_repeated, assign_list}
+use Rattle.kern_syntax.specs.Tree.{Expression, Statement, pass, break, continue, return, evaluate, assign}
+use Rattle.kern_syntax.specs.Tree.{assign_element, augment, augment_element, assign_repeated, assign_list}
 use Rattle.kern_grammar.specs.Expressions.{expression_symbols, list_symbols, in_brackets}
 
 -- the sign of an augmented assignment

@@ -3,13 +3,17 @@ use Rattle.std.specs.Prelude.{◌≡◌, ℕ, Bool, true, false, List, [], ◌�
 use Rattle.kern_lexer.specs.Bytes.{Bytes}
 use Rattle.kern_lexer.specs.Symbols.{Symbol, Lexeme}
 use Rattle.kern_syntax.specs.Grammatical.{Fits}
-use Rattle.kern_syntax.specs.Tree.{Expression, Statement, pass, break, continue, return, evaluate, assign, assign_element, augment, augment_element, assign_repeated, assign_list}
+use Rattle.kern_syntax.specs.Tree.{Expression, Statement, pass, break, continue, return, evaluate, assign}
+use Rattle.kern_syntax.specs.Tree.{assign_element, augment, augment_element, assign_repeated, assign_list}
 use Rattle.kern_grammar.specs.Expressions.{expression_symbols}
 use Rattle.kern_grammar.specs.Operators.{stops}
 use Rattle.kern_grammar.specs.Phrases.{symbols_of}
-use Rattle.kern_grammar.specs.Plans.{Taker, Plan, done, token, peek, part, last, run, Spells, lifted, many, EachOf, EachEnds}
+use Rattle.kern_grammar.specs.Plans.{Taker, Plan, done, token, peek, part, last}
+use Rattle.kern_grammar.specs.Plans.{run, Spells, lifted, many, EachOf, EachEnds}
 use Rattle.kern_grammar.specs.Reading.{readers}
-use Rattle.kern_grammar.specs.Views.{line_end, comma, open_bracket, close_bracket, is_seen, a_number, star_or_end, Opening, passes, breaks, continues, returns, opening, any, to_name, to_element, Deed, evaluates, assigns_to, augments_at, deed}
+use Rattle.kern_grammar.specs.Views.{line_end, comma, open_bracket, close_bracket, is_seen, a_number}
+use Rattle.kern_grammar.specs.Views.{star_or_end, Opening, passes, breaks, continues, returns, opening, any}
+use Rattle.kern_grammar.specs.Views.{to_name, to_element, Deed, evaluates, assigns_to, augments_at, deed}
 
 -- the tokens of an expression with so much room for nesting, and what may follow it
 abbrev pub expression_phrase : (room : ℕ) → Expression → List Lexeme → Type 0

@@ -3,12 +3,15 @@ use Rattle.std.specs.Prelude.{◌≡◌, ℕ, List, [], ◌∷◌, not, Some, No
 use Rattle.kern_syntax.specs.declared.expression.BinaryOperator.{BinaryOperator}
 use Rattle.kern_syntax.specs.declared.expression.Comparison.{Comparison}
 use Rattle.kern_syntax.specs.declared.expression.UnaryOperator.{UnaryOperator}
-use Rattle.kern_syntax.specs.Tree.{Bytes, Expression, integer, true_literal, false_literal, variable, element, group, unary, binary, compare, negation, conjunction, disjunction, call, method, Arguments, no_more, value_then, text_then, FunctionTree}
+use Rattle.kern_syntax.specs.Tree.{Bytes, Expression, integer, true_literal, false_literal, variable, element}
+use Rattle.kern_syntax.specs.Tree.{group, unary, binary, compare, negation, conjunction, disjunction, call}
+use Rattle.kern_syntax.specs.Tree.{method, Arguments, no_more, value_then, text_then, FunctionTree}
 use Rattle.kern_calls.specs.declared.types.ValueType.{ValueType}
 use Rattle.kern_calls.specs.declared.types.ValueType.TheVariants as V
 use Rattle.kern_calls.specs.declared.calls.Builtin.{Builtin}
 use Rattle.kern_calls.specs.declared.calls.Operation.{Operation}
-use Rattle.kern_calls.specs.Calls.{look_up, builtin_named, builtin_result, builtin_takes, builtin_is_live, method_named, operation_result, operation_takes, is_live}
+use Rattle.kern_calls.specs.Calls.{look_up, builtin_named, builtin_result, builtin_takes, builtin_is_live}
+use Rattle.kern_calls.specs.Calls.{method_named, operation_result, operation_takes, is_live}
 use Rattle.kern_calls.specs.Types.{Names, binary_type, literal_type, function_named}
 use Rattle.kern_expression_types.specs.declared.place.Given.{Given}
 use Rattle.kern_expression_types.specs.declared.place.Given.TheVariants.{Text, Typed}

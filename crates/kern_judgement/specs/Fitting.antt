@@ -1,4 +1,5 @@
--- Which types are integers, which fit where another is wanted, and where a statement stands: rules without faults or lines.
+-- Which types are integers, which fit where another is wanted,
+-- and where a statement stands: rules without faults or lines.
 use Rattle.std.specs.Prelude.{◌≡◌, ℕ, List, [], ◌∷◌, Bool, true, false, Option}
 use Rattle.kern_syntax.specs.declared.program.DeclaredType.{DeclaredType}
 use Rattle.kern_syntax.specs.declared.expression.Comparison.{Comparison}
@@ -11,8 +12,8 @@ use Rattle.kern_expression_types.specs.declared.place.Given.{Given}
 use Rattle.kern_expression_types.specs.declared.place.Given.TheVariants as G
 use Rattle.kern_expression_types.specs.declared.place.Place.{Place}
 
--- where a statement stands: what its function gives, whether it may leave a loop, whether it may leave the function, and
--- whether it stands in a record block
+-- where a statement stands: what its function gives, whether it may leave a loop,
+-- whether it may leave the function, and whether it stands in a record block
 pub record Standing : Type 0 where
   pub result : Option DeclaredType
   pub in_loop : Bool
@@ -77,7 +78,8 @@ pub data AllFit : List Wanted → List Given → Type 0 where
   one : {wanted : Wanted} {given : Given} {rest : List Wanted} {others : List Given}
       → Fits wanted given → AllFit rest others → AllFit (wanted ∷ rest) (given ∷ others)
 
--- a name of the first type keeps a value of the second: one of its own type, so an array its length, or an int32 as an int64
+-- a name of the first type keeps a value of the second: one of
+-- its own type, so an array its length, or an int32 as an int64
 pub data Keeps : (held assigned : ValueType) → Type 0 where
   same : {t : ValueType} → Keeps t t
   widened : Keeps V.Int64 V.Int32

@@ -2,7 +2,10 @@
 use Rattle.std.specs.Prelude.{◌≡◌, ℕ, ◌≤◌, ◌<◌, List, [], ◌∷◌, ◌++◌, length, true, false, Option, Some, None}
 use Rattle.kern_syntax.specs.declared.program.DeclaredType.{DeclaredType}
 use Rattle.kern_syntax.specs.declared.statement.Augment.{Augment}
-use Rattle.kern_syntax.specs.Tree.{Bytes, Expression, Statement, pass, evaluate, assign, assign_element, augment, augment_element, assign_repeated, assign_list, if_then, while_do, for_range, parallel, sequential, record_as, try_do, Block, done, line_then, Otherwise, no_else, else_do, elif_then, Handlers, no_handler, except_then}
+use Rattle.kern_syntax.specs.Tree.{Bytes, Expression, Statement, pass, evaluate, assign, assign_element}
+use Rattle.kern_syntax.specs.Tree.{augment, augment_element, assign_repeated, assign_list, if_then, while_do}
+use Rattle.kern_syntax.specs.Tree.{for_range, parallel, sequential, record_as, try_do, Block, done, line_then}
+use Rattle.kern_syntax.specs.Tree.{Otherwise, no_else, else_do, elif_then, Handlers, no_handler, except_then}
 use Rattle.kern_syntax.specs.Tree as T
 use Rattle.kern_calls.specs.declared.types.ValueType.{ValueType}
 use Rattle.kern_calls.specs.declared.types.ValueType.TheVariants as V
@@ -13,12 +16,13 @@ use Rattle.kern_expression_types.specs.declared.place.Given.TheVariants.{Typed}
 use Rattle.kern_expression_types.specs.Fits.{declared_wanted}
 use Rattle.kern_expression_types.specs.Before.{Functions, is_in, is_taken, exceptions}
 use Rattle.kern_types.specs.Statements.{most_names}
-use Rattle.kern_judgement.specs.Fitting.{Standing, in_a_loop, in_parallel, in_a_record, IsInteger, IsScalar, IsNoArray, Fits, Keeps}
+use Rattle.kern_judgement.specs.Fitting.{Standing, in_a_loop, in_parallel, in_a_record}
+use Rattle.kern_judgement.specs.Fitting.{IsInteger, IsScalar, IsNoArray, Fits, Keeps}
 use Rattle.kern_judgement.specs.Expressions.{HasType, IsAnInteger, AreIntegers}
 
 module _ (functions : Functions) where
-  -- a value of a type is assigned to a name: a new name goes behind the others with this type, where there is room, and one that
-  -- is there keeps its own
+  -- a value of a type is assigned to a name: a new name goes behind the others
+  -- with this type, where there is room, and one that is there keeps its own
   pub data Takes (x : Bytes) (t : ValueType) (names : Names) : (after : Names) → Type 0 where
     new : is_taken functions x ≡ false → look_up names x ≡ None → length names < most_names → Takes x t names (names ++ (x, t) ∷ [])
     kept : {held : ValueType} → is_taken functions x ≡ false → look_up names x ≡ Some held → Keeps held t → Takes x t names names

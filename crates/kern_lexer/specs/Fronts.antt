@@ -1,5 +1,6 @@
 -- The token at the front of some bytes.
-use Rattle.std.specs.Prelude.{ℕ, ◌+◌, Bool, true, false, ◌&&◌, ◌==◌, nat_le, Option, Some, None, Result, Ok, Err, length, drop, take_while, slice_index, if◌then◌else◌}
+use Rattle.std.specs.Prelude.{ℕ, ◌+◌, Bool, true, false, ◌&&◌, ◌==◌, nat_le, Option, Some, None}
+use Rattle.std.specs.Prelude.{Result, Ok, Err, length, drop, take_while, slice_index, if◌then◌else◌}
 use Rattle.std.specs.List.{prefix_len}
 use Rattle.kern_lexer.specs.Bytes.{Bytes, is_word_byte, tab, space, quote}
 use Rattle.kern_lexer.specs.Keys.{key_of}

@@ -1,5 +1,6 @@
 -- What holds behind some pieces: the place, the line, the open brackets, and the widths of the lines.
-use Rattle.std.specs.Prelude.{ℕ, ◌+◌, List, [], ◌∷◌, ◌++◌, Bool, not, ◌&&◌, ◌||◌, ◌==◌, nat_lt, count_by, fold, length, reverse, take_while, if◌then◌else◌}
+use Rattle.std.specs.Prelude.{ℕ, ◌+◌, List, [], ◌∷◌, ◌++◌, Bool, not, ◌&&◌, ◌||◌, ◌==◌, nat_lt}
+use Rattle.std.specs.Prelude.{count_by, fold, length, reverse, take_while, if◌then◌else◌}
 use Rattle.std.specs.List.{list_all, list_any}
 use Rattle.kern_lexer.specs.Brackets.{open_after}
 use Rattle.kern_lexer.specs.Pieces.{Piece, word, bytes_of_pieces, is_blank, is_line_end}

@@ -1,4 +1,5 @@
--- Stated a second time for the proof's sake: the lines of a text, as the code goes over them. What a text has is said in Answers.antt.
+-- Stated a second time for the proof's sake: the lines of a text, as
+-- the code goes over them. What a text has is said in Answers.antt.
 use Rattle.std.specs.Prelude.{List, [], ◌∷◌, ◌==◌, if◌then◌else◌}
 use Rattle.std.specs.List.{slice_split, before_first}
 use Rattle.kern_lexer.specs.Bytes.{Bytes, line_feed, carriage_return, number_sign}

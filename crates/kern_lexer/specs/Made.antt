@@ -1,7 +1,8 @@
 -- The tokens that the pieces of a text make, and its end.
 use Rattle.std.specs.Prelude.{ℕ, List, [], ◌∷◌, ◌++◌, ◌&&◌, nat_lt, count_by, length, map, replicate, if◌then◌else◌}
 use Rattle.std.specs.List.{list_any}
-use Rattle.kern_lexer.specs.Layouts.{place_behind, line_behind, is_outside, this_line, is_first_word, width_behind, made_behind, widths_of, last_width, open_widths}
+use Rattle.kern_lexer.specs.Layouts.{place_behind, line_behind, is_outside, this_line, is_first_word}
+use Rattle.kern_lexer.specs.Layouts.{width_behind, made_behind, widths_of, last_width, open_widths}
 use Rattle.kern_lexer.specs.Pieces.{Piece, blank, skipped_return, comment, line_end, word, is_word}
 use Rattle.kern_lexer.specs.declared.token.Token.{Token}
 use Rattle.kern_lexer.specs.declared.token.TokenKind.{TokenKind}

@@ -1,4 +1,5 @@
--- Stated a second time for the proof's sake: the leading spaces of a line against the widths that are open, as the code compares them. What a text has is said in Answers.antt.
+-- Stated a second time for the proof's sake: the leading spaces of a line against the
+-- widths that are open, as the code compares them. What a text has is said in Answers.antt.
 use Rattle.std.specs.Prelude.{ℕ, ◌-◌, List, [], ◌∷◌, ◌==◌, nat_lt, Option, Some, None, length, replicate, if◌then◌else◌}
 use Rattle.std.specs.List.{prefix_len}
 use Rattle.kern_lexer.specs.Bytes.{Bytes, space}

@@ -1,5 +1,6 @@
 -- The numbers and their values.
-use Rattle.std.specs.Prelude.{ℕ, ◌+◌, ◌-◌, ◌*◌, ◌^◌, [], ◌∷◌, Bool, false, ◌||◌, ◌&&◌, ◌==◌, nat_lt, nat_eq, Option, Some, None, codes, fold, drop, length, if◌then◌else◌}
+use Rattle.std.specs.Prelude.{ℕ, ◌+◌, ◌-◌, ◌*◌, ◌^◌, [], ◌∷◌, Bool, false, ◌||◌, ◌&&◌, ◌==◌, nat_lt}
+use Rattle.std.specs.Prelude.{nat_eq, Option, Some, None, codes, fold, drop, length, if◌then◌else◌}
 use Rattle.std.specs.Char.{is_ascii_digit, is_ascii_uppercase, is_ascii_hexdigit}
 use Rattle.std.specs.List.{list_all, starts_with}
 use Rattle.kern_lexer.specs.Bytes.{Bytes, underscore}

@@ -1,4 +1,5 @@
--- Stated a second time for the proof's sake: what a step of the code leaves, the tokens so far and what is open. What a text has is said in Answers.antt.
+-- Stated a second time for the proof's sake: what a step of the code leaves,
+-- the tokens so far and what is open. What a text has is said in Answers.antt.
 use Rattle.std.specs.Prelude.{◌≡◌, ℕ, ◌+◌, List, ◌++◌, Result, Ok, Err, reverse}
 use Rattle.kern_lexer.specs.Brackets.{open_behind}
 use Rattle.kern_lexer.specs.Bytes.{Bytes}

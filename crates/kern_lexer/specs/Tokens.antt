@@ -1,5 +1,7 @@
--- Stated a second time for the proof's sake: the tokens of a text, by going over its lines as the code does. What a text has is said in Answers.antt; a law says that both are the same.
-use Rattle.std.specs.Prelude.{ℕ, suc, ◌+◌, List, [], ◌∷◌, ◌++◌, Option, Some, None, Result, Ok, Err, drop, length, map, replicate, if◌then◌else◌}
+-- Stated a second time for the proof's sake: the tokens of a text, by going over its lines as the code does. What a
+-- text has is said in Answers.antt; a law says that both are the same.
+use Rattle.std.specs.Prelude.{ℕ, suc, ◌+◌, List, [], ◌∷◌, ◌++◌, Option, Some, None, Result}
+use Rattle.std.specs.Prelude.{Ok, Err, drop, length, map, replicate, if◌then◌else◌}
 use Rattle.kern_lexer.specs.Brackets.{open_behind}
 use Rattle.kern_lexer.specs.Bytes.{Bytes}
 use Rattle.kern_lexer.specs.Faults.{LexFault, ◌>>=◌}

@@ -1,4 +1,5 @@
--- Stated a second time for the proof's sake: the tokens within a line, as the code reads them. What a text has is said in Answers.antt.
+-- Stated a second time for the proof's sake: the tokens within a line,
+-- as the code reads them. What a text has is said in Answers.antt.
 use Rattle.std.specs.Prelude.{ℕ, zero, suc, ◌-◌, List, [], ◌∷◌, ◌++◌, Result, Ok}
 use Rattle.kern_lexer.specs.Bytes.{Bytes}
 use Rattle.kern_lexer.specs.Faults.{LexFault, ◌>>=◌, placed}

@@ -7,7 +7,8 @@ use Rattle.kern_expressions.specs.declared.read_end.ReadEnd.TheVariants as R
 use Rattle.kern_syntax.specs.Tree.{FunctionTree, ParameterTree}
 use Rattle.kern_grammar.specs.BlockPlans.{def_plan, more_parameters, parameters_plan, result_plan}
 use Rattle.kern_grammar.specs.Plans.{Plan, Taken, peek, token}
-use Rattle.kern_grammar.specs.Views.{a_name, arrow_or_colon, close_parenthesis, def_key, is_seen, line_end, open_parenthesis, the_name}
+use Rattle.kern_grammar.specs.Views.{a_name, arrow_or_colon, close_parenthesis, def_key}
+use Rattle.kern_grammar.specs.Views.{is_seen, line_end, open_parenthesis, the_name}
 
 -- where a reader wants memory, the tokens can be taken
 abbrev pub NeedsTree : {A : Type 0} → Taken A → ReadEnd → Type 0

@@ -4,7 +4,12 @@ use Rattle.std.specs.List.{list_all}
 use Rattle.kern_syntax.specs.declared.statement.Target.{Target}
 use Rattle.kern_syntax.specs.declared.statement.Target.TheVariants as L
 use Rattle.kern_syntax.specs.TreeOf.{expression_of}
-use Rattle.kern_syntax.specs.Tree.{Bytes, Expression, element, group, unary, binary, compare, negation, conjunction, disjunction, call, method, Arguments, no_more, value_then, text_then, Statement, return, evaluate, assign, assign_element, augment, augment_element, assign_repeated, assign_list, if_then, while_do, for_range, parallel, sequential, record_as, try_do, Block, done, line_then, Otherwise, no_else, else_do, elif_then, Handlers, no_handler, except_then, FunctionTree}
+use Rattle.kern_syntax.specs.Tree.{Bytes, Expression, element, group, unary, binary, compare, negation}
+use Rattle.kern_syntax.specs.Tree.{conjunction, disjunction, call, method, Arguments, no_more, value_then}
+use Rattle.kern_syntax.specs.Tree.{text_then, Statement, return, evaluate, assign, assign_element, augment}
+use Rattle.kern_syntax.specs.Tree.{augment_element, assign_repeated, assign_list, if_then, while_do, for_range}
+use Rattle.kern_syntax.specs.Tree.{parallel, sequential, record_as, try_do, Block, done, line_then, Otherwise}
+use Rattle.kern_syntax.specs.Tree.{no_else, else_do, elif_then, Handlers, no_handler, except_then, FunctionTree}
 use Rattle.kern_calls.specs.declared.calls.Builtin.{Builtin}
 use Rattle.kern_calls.specs.declared.calls.Operation.{Operation}
 use Rattle.kern_calls.specs.Calls.{builtin_named, builtin_is_live, is_live, method_named}
@@ -90,8 +95,8 @@ abbrev pub is_plain_target : List Bytes → Target → Bool
 is_plain_target plain (L.Variable x) = true
 is_plain_target plain (L.Element x i) = is_plain_expression plain (expression_of i)
 
--- a function is plain that has no live call, no record block, and calls of plain functions only, given those before it; its
--- own calls don't count
+-- a function is plain that has no live call, no record block, and calls of
+-- plain functions only, given those before it; its own calls don't count
 abbrev pub is_plain_function : List Bytes → FunctionTree → Bool
 is_plain_function plain f = is_plain_block (plain ++ f.name ∷ []) f.body
 

@@ -5,7 +5,8 @@ use Rattle.kern_syntax.specs.TreeOf.{expression_of}
 use Rattle.kern_grammar.specs.BlockPlans.{range_plan}
 use Rattle.kern_grammar.specs.Plans.{Plan, token}
 use Rattle.kern_grammar.specs.SimplePlans.{an_expression}
-use Rattle.kern_grammar.specs.Views.{a_text, a_with_item, close_parenthesis, comma_or_close, dot, in_key, open_parenthesis, the_name}
+use Rattle.kern_grammar.specs.Views.{a_text, a_with_item, close_parenthesis, comma_or_close}
+use Rattle.kern_grammar.specs.Views.{dot, in_key, open_parenthesis, the_name}
 use Rattle.kern_grammar.specs.Views as V
 use Rattle.kern_statements.specs.declared.headers.Bounds.{Bounds}
 use Rattle.kern_statements.specs.declared.headers.WithItem.{WithItem}

@@ -1,4 +1,5 @@
--- For the proofs alone: the steps of the code that reads statements on one line, which are parts of the plans, and what its values stand for.
+-- For the proofs alone: the steps of the code that reads statements on
+-- one line, which are parts of the plans, and what its values stand for.
 use Rattle.std.specs.Prelude.{ℕ}
 use Rattle.kern_lexer.specs.Bytes.{Bytes}
 use Rattle.kern_syntax.specs.declared.statement.Stmt.{Stmt}
@@ -8,7 +9,8 @@ use Rattle.kern_syntax.specs.declared.statement.Target.{Target}
 use Rattle.kern_syntax.specs.declared.statement.Target.TheVariants as T
 use Rattle.kern_syntax.specs.Tree.{Statement, assign_element}
 use Rattle.kern_syntax.specs.Tree as Tree
-use Rattle.kern_syntax.specs.TreeOf.{Before, expression_of, statement_step, block_step, elif_step, handler_step, line_step}
+use Rattle.kern_syntax.specs.TreeOf.{Before, expression_of, statement_step}
+use Rattle.kern_syntax.specs.TreeOf.{block_step, elif_step, handler_step, line_step}
 use Rattle.kern_grammar.specs.Plans.{Plan, token, peek}
 use Rattle.kern_grammar.specs.SimplePlans.{Line, an_expression, array_end, assigned, end_line, more_elements}
 use Rattle.kern_grammar.specs.Views.{Place, to_name, to_element, close_bracket, is_seen, open_bracket}

@@ -1,5 +1,6 @@
 -- The verdict on a program: its functions in the order of the text, and then that there is a `main`.
-use Rattle.std.specs.Prelude.{ℕ, List, [], ◌∷◌, ◌++◌, length, Bool, true, false, not, ◌||◌, nat_le, ◌==◌, bytes_eq, position, IsTrue, Option, Some, None, is_some, codes}
+use Rattle.std.specs.Prelude.{ℕ, List, [], ◌∷◌, ◌++◌, length, Bool, true, false, not, ◌||◌, nat_le}
+use Rattle.std.specs.Prelude.{◌==◌, bytes_eq, position, IsTrue, Option, Some, None, is_some, codes}
 use Rattle.kern_syntax.specs.Tree.{Bytes, ParameterTree, FunctionTree, ProgramTree}
 use Rattle.kern_expression_types.specs.declared.place.Place.{Place}
 use Rattle.kern_expression_types.specs.declared.fault.TypeKind.TheVariants as K

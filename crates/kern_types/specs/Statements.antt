@@ -1,7 +1,10 @@
 -- The names after a statement, or its first fault: its parts count in the order in which they are evaluated.
 use Rattle.std.specs.Prelude.{ℕ, List, [], ◌∷◌, ◌++◌, length, true, false, not, ◌&&◌, nat_le, Option, Some, None}
 use Rattle.kern_syntax.specs.declared.program.DeclaredType.{DeclaredType}
-use Rattle.kern_syntax.specs.Tree.{Bytes, Expression, Statement, pass, evaluate, assign, assign_element, augment, augment_element, assign_repeated, assign_list, if_then, while_do, for_range, parallel, sequential, record_as, try_do, Block, done, line_then, Otherwise, no_else, else_do, elif_then, Handlers, no_handler, except_then}
+use Rattle.kern_syntax.specs.Tree.{Bytes, Expression, Statement, pass, evaluate, assign, assign_element}
+use Rattle.kern_syntax.specs.Tree.{augment, augment_element, assign_repeated, assign_list, if_then, while_do}
+use Rattle.kern_syntax.specs.Tree.{for_range, parallel, sequential, record_as, try_do, Block, done, line_then}
+use Rattle.kern_syntax.specs.Tree.{Otherwise, no_else, else_do, elif_then, Handlers, no_handler, except_then}
 use Rattle.kern_syntax.specs.Tree as T
 use Rattle.kern_calls.specs.declared.types.ValueType.{ValueType}
 use Rattle.kern_calls.specs.declared.types.ValueType.TheVariants as V
@@ -12,9 +15,11 @@ use Rattle.kern_expression_types.specs.declared.fault.TypeKind.TheVariants as K
 use Rattle.kern_calls.specs.Calls.{look_up}
 use Rattle.kern_calls.specs.Types.{Names, wider_type}
 use Rattle.kern_expression_types.specs.Verdicts.{Verdict, well, fault, ◌>>=◌, ◌>>◌, refuse_if, refuse_some, found_or}
-use Rattle.kern_expression_types.specs.Fits.{declared_wanted, kept_misfit, fit, fit_each, as_integer, as_statement, scalar_of}
+use Rattle.kern_expression_types.specs.Fits.{declared_wanted, kept_misfit, fit, fit_each}
+use Rattle.kern_expression_types.specs.Fits.{as_integer, as_statement, scalar_of}
 use Rattle.kern_expression_types.specs.Before.{Functions, is_in, is_taken, exceptions}
-use Rattle.kern_expression_types.specs.Expressions.{expression_verdict, variable_verdict, element_verdict, fitting_verdict, condition_verdict, elements_verdict}
+use Rattle.kern_expression_types.specs.Expressions.{expression_verdict, variable_verdict, element_verdict}
+use Rattle.kern_expression_types.specs.Expressions.{fitting_verdict, condition_verdict, elements_verdict}
 
 -- the most names of a function, its parameters among them
 abbrev pub most_names : ℕ

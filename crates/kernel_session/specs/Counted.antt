@@ -14,8 +14,8 @@ pub record PutsOutTheSame (config : Config) (one other : List Entry) : Type 0 wh
   pub log : (counter : ℕ) → log_at config one counter ≡ log_at config other counter
   pub lines : (counter : ℕ) → log_lines_at config one counter ≡ log_lines_at config other counter
 
--- Outputs and resets alone count, with the counters at which they were asked: histories that have the same ones put out the
--- same, and so does one that lacks any other entry, a request for a recording among them
+-- Outputs and resets alone count, with the counters at which they were asked: histories that have the same ones put out
+-- the same, and so does one that lacks any other entry, a request for a recording among them
 pub record OutputsAndResetsCount (config : Config) : Type 0 where
   pub same : (one other : List Entry) → lane_steps one ≡ lane_steps other → PutsOutTheSame config one other
   pub others : (front : List Entry) (entry : Entry) (back : List Entry)

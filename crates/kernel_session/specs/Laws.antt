@@ -20,7 +20,8 @@ use Rattle.core_session.specs.Sessions.{Account, RunsSession, account_of, beginn
 use Rattle.kernel_session.specs.Meant.{TakesArguments, account_of_meaning, meant}
 use Rattle.kernel_session.specs.Replays.{ArePlayed, PlaysRecordings, played_at}
 
--- the second account goes on from the first, which lacked a reply, by a recording that this reply brought, and these to come
+-- the second account goes on from the first, which lacked a reply,
+-- by a recording that this reply brought, and these to come
 pub record GoesOnPlaying (fewer more : Account) (recording : Recorded) (replies : List Reply) : Type 0 where
   pub own : List Request
   pub is : more.requests ≡ fewer.requests ++ own
@@ -52,8 +53,8 @@ RunsPlayWhatTheyGet code =
     → fewer.outcome ≡ unanswered
     → GoesOnPlaying (account_of fewer) (account_of more) recording rest
 
--- each recording that a reply to a session of the code brought was asked for at the cursor where the code's runs stood then,
--- and is played there
+-- each recording that a reply to a session of the code brought was asked
+-- for at the cursor where the code's runs stood then, and is played there
 abbrev pub SessionsPlayRecordings : Code → Type 0
 SessionsPlayRecordings code =
     (units : ℕ) (of : StartOf) (old new : CoreState) (how : Outcome) (count : ℕ)

@@ -40,8 +40,8 @@ script_of program start replies =
     next_of m.requests (outcome_of_meant m.outcome) m.cursor
 
 -- the history has grown by one session, whose requests, outcome and cursor are those of the program's meaning under its
--- replies; so each recording that a reply brought was asked for at the cursor where the meaning stood then, and is played
--- there
+-- replies; so each recording that a reply brought was asked for
+-- at the cursor where the meaning stood then, and is played there
 pub record MeansSession (program : ProgramTree) (units : ℕ) (of : StartOf) (old new : CoreState) (how : Outcome) : Type 0 where
   pub asked : List Answered
   pub cursor : ℤ

@@ -22,9 +22,9 @@ is_for_recording request = false
 abbrev pub played_at : ℤ → List Event → List Event
 played_at cursor events = map (λ (e : Event). shifted e cursor) events
 
--- What follows a reply that brought a recording: the replies to come, the requests made, and the outcome, if there is one.
--- The requests are these outputs in their order. They stop before the last one only where no unit or no reply is left, or at
--- one that underflows
+-- What follows a reply that brought a recording: the replies to come, the requests made, and
+-- the outcome, if there is one. The requests are these outputs in their order. They stop
+-- before the last one only where no unit or no reply is left, or at one that underflows
 abbrev pub ArePlayed : List Event → List Reply → List Request → Option Outcome → Type 0
 ArePlayed [] replies requests how = Unit {0}
 ArePlayed (e ∷ events) replies [] how = how ≡ Some outcome.Budget
@@ -32,8 +32,8 @@ ArePlayed (e ∷ events) [] (request ∷ requests) how = (request ≡ ask.Out e)
 ArePlayed (e ∷ events) (reply ∷ replies) (request ∷ requests) how =
     (request ≡ ask.Out e) × ((reply ≡ answer.Underflow) ⊎ ArePlayed events replies requests how)
 
--- The same in a session that has ended: the answered requests behind that one are these outputs in their order, and stop
--- before the last one only at one that underflows, or where the session ended for want of a unit or at the horizon
+-- The same in a session that has ended: the answered requests behind that one are these outputs in their order, and
+-- stop before the last one only at one that underflows, or where the session ended for want of a unit or at the horizon
 abbrev pub PlaysBack : List Event → List Answered → Outcome → Type 0
 PlaysBack [] asked how = Unit {0}
 PlaysBack (e ∷ events) [] how = (how ≡ outcome.Budget) ⊎ (how ≡ outcome.Horizon)

@@ -28,7 +28,8 @@ new_workers desks (suc number) = new_worker desks number ∷ new_workers desks n
 abbrev pub IsFreeWorker : WorkerValue → Type 0
 IsFreeWorker w = IsFree w.number w.sched × Each (IsFree w.number) w.cores
 
--- the worker has done all that there was to do: it is between two jobs, has seen that every run ended, and has put no halt
+-- the worker has done all that there was to do: it is between
+-- two jobs, has seen that every run ended, and has put no halt
 pub record IsDone (session : Session) (w : WorkerValue) : Type 0 where
   pub rest : IsAtRest session w
   pub over : IsTrue (is_over (state_after session (sched_entries w.sched.seen)))

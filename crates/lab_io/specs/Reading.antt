@@ -1,5 +1,6 @@
 -- What reading a source to its end takes of it.
-use Rattle.std.specs.Prelude.{◌≡◌, ℕ, ◌+◌, ◌≤◌, ◌<◌, Bool, IsTrue, IsFalse, List, [], ◌++◌, length, Option, Result, MatchResult, Vec}
+use Rattle.std.specs.Prelude.{◌≡◌, ℕ, ◌+◌, ◌≤◌, ◌<◌, Bool, IsTrue, IsFalse, List}
+use Rattle.std.specs.Prelude.{[], ◌++◌, length, Option, Result, MatchResult, Vec}
 use Rattle.std.specs.Io.KnownBytes.{Consumes, IsAtEnd}
 use Rattle.std.specs.declared.alloc.Global.{Global}
 use Rattle.lab_io.specs.declared.source.ReadEnd.{ReadEnd}

@@ -12,7 +12,8 @@ use Rattle.core_isa.specs.Runs.{Ran, Runs}
 use Rattle.core_isa.specs.WellAsked.{RepliesFit}
 use Rattle.core_cpu.specs.Standing.{Start as Beginning}
 use Rattle.core_session.specs.Scripts.{HaveNumbers}
-use Rattle.core_session.specs.Sessions.{Account, Answered, account_of, beginning_of, open_entries, replies_of, requests_of}
+use Rattle.core_session.specs.Sessions.{Account, Answered, account_of, beginning_of}
+use Rattle.core_session.specs.Sessions.{open_entries, replies_of, requests_of}
 use Rattle.lab_kernels.specs.Decided.{WaitsFor}
 use Rattle.lab_kernels.specs.Kernels.{AreAskedAtTop}
 
@@ -35,8 +36,8 @@ AreAsked Asks before (a ∷ rest) = Asks before a.request × AreAsked Asks (befo
 
 -- ---- where the core stands
 
--- The request would get its reply now, at the greatest counter that it may have. It waits only if it wasn't decided where the
--- core stops without it; nothing else waits
+-- The request would get its reply now, at the greatest counter that it may have. It
+-- waits only if it wasn't decided where the core stops without it; nothing else waits
 pub record IsDue (core : CoreState) (request : Request) : Type 0 where
   pub at_top : core.counter ≡ top core.config core.history (Some request)
   pub decided : IsSome (reply_to core.config core.history request core.counter)
@@ -56,8 +57,8 @@ IsStopped Asks core =
 
 -- ---- the session
 
--- The history has grown by the start of a session for this and by answered requests, and by no end. Each request is the one that
--- is asked next behind those before, and stands at its top
+-- The history has grown by the start of a session for this and by answered requests, and by no end. Each request is the
+-- one that is asked next behind those before, and stands at its top
 pub record IsCutShort (Asks : List Answered → Request → Type 0) (chair : ℕ) (of : StartOf) (old new : CoreState) : Type 0 where
   pub asked : List Answered
   pub history : new.history ≡ old.history ++ open_entries chair of (last_cursor old.history) old.counter asked
@@ -67,8 +68,8 @@ pub record IsCutShort (Asks : List Answered → Request → Type 0) (chair : ℕ
   pub asks : AreAsked Asks [] asked
   pub stands : IsStopped (Asks asked) new
 
--- so it is with the requests of the run of the code. The replies fit their requests, and their numbers and the cursor at which
--- the run began are of 64 bits
+-- so it is with the requests of the run of the code. The replies fit their
+-- requests, and their numbers and the cursor at which the run began are of 64 bits
 pub record CutsCode (code : Code) (units chair : ℕ) (of : StartOf) (old new : CoreState) : Type 0 where
   pub cut : IsCutShort (CodeAsks code (beginning_of of units old)) chair of old new
   pub fit : RepliesFit (requests_of cut.asked) (replies_of cut.asked)

@@ -36,8 +36,8 @@ abbrev pub IsDecided : CoreState → (chair : ℕ) → Request → Option Reply 
 IsDecided old chair request (Some reply) new = IsAnswered old chair request reply new
 IsDecided old chair request None new = IsNeverAnswered old request new
 
--- It has no reply yet, and would get one here, at the greatest counter that it may have. It began to wait only if it wasn't
--- decided where the core stops without it
+-- It has no reply yet, and would get one here, at the greatest counter that it may
+-- have. It began to wait only if it wasn't decided where the core stops without it
 pub record IsHeldUp (old : CoreState) (request : Request) (new : CoreState) : Type 0 where
   pub later : IsLater old new
   pub at_top : new.counter ≡ top old.config old.history (Some request)

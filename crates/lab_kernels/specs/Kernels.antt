@@ -15,8 +15,8 @@ use Rattle.sched_state.specs.declared.entry.DataSet.{DataSet}
 use Rattle.sched_state.specs.declared.entry.KernelResult.{KernelResult}
 use Rattle.core_session.specs.Sessions.{Answered, entry_of, open_entries, requests_of}
 
--- one session: what it runs, the counters at its start and end, its answered requests, how and with which cursor it ended, and
--- how many instructions it took
+-- one session: what it runs, the counters at its start and end, its answered
+-- requests, how and with which cursor it ended, and how many instructions it took
 pub record KernelRun : Type 0 where
   pub of : StartOf
   pub started : ℕ

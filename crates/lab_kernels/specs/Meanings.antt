@@ -21,8 +21,8 @@ use Rattle.lab_kernels.specs.Runs.{HasRun, RunsCode}
 abbrev pub beginning_behind : (before : List Entry) → (units : ℕ) → KernelRun → Beginning
 beginning_behind before units k = record { function = k.of.function; args = k.of.args; cursor = last_cursor before; units = units }
 
--- the session's requests, outcome and cursor are those of the program's meaning under its replies; so each recording that a
--- reply brought was asked for at the cursor where the meaning stood then, and is played there
+-- the session's requests, outcome and cursor are those of the program's meaning under its replies; so each recording
+-- that a reply brought was asked for at the cursor where the meaning stood then, and is played there
 pub record MeansProgram (program : ProgramTree) (units chair : ℕ) (config : Config) (before : List Entry) (k : KernelRun) : Type 0 where
   pub ends : EndsAs
       config
@@ -46,8 +46,8 @@ ProgramAsks program start asked request = LacksReply (account_of_meaning (meant 
 abbrev pub LeavesKernel : ProgramTree → (units chair : ℕ) → StartOf → CoreState → CoreState → Type 0
 LeavesKernel program units chair of old new = (new ≡ old) ⊎ IsCutShort (ProgramAsks program (beginning_of of units old)) chair of old new
 
--- a session of the chair is all that stands in the later history behind the earlier. It was started for this; each request stands at
--- its top, and an end at the horizon there; and it is one of the code, and of the program's meaning
+-- a session of the chair is all that stands in the later history behind the earlier. It was started for this; each
+-- request stands at its top, and an end at the horizon there; and it is one of the code, and of the program's meaning
 pub record IsKernelSession (program : ProgramTree) (code : Code) (units chair : ℕ) (of : StartOf) (config : Config) (before after : List Entry) (k : KernelRun) : Type 0 where
   pub of_is : k.of ≡ of
   pub stands : after ≡ before ++ session_entries chair before k

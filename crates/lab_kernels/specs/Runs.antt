@@ -12,10 +12,12 @@ use Rattle.core_isa.specs.Runs.{Ran, Runs}
 use Rattle.core_isa.specs.WellAsked.{RepliesFit}
 use Rattle.core_session.specs.Scripts.{HaveNumbers}
 use Rattle.core_session.specs.Sessions.{EndsAs, account_of, replies_of}
-use Rattle.lab_kernels.specs.Kernels.{AreAskedAtTop, ArePrompt, KernelRun, entries_until_end, result_of, session_entries}
+use Rattle.lab_kernels.specs.Kernels.{AreAskedAtTop, ArePrompt, KernelRun}
+use Rattle.lab_kernels.specs.Kernels.{entries_until_end, result_of, session_entries}
 
--- The history has grown by one session of the chair, which began at the counter. Each request stands at its top, an end at the
--- horizon there; and where the core had not ticked since its last entry, no cycle passed before the start nor before another end
+-- The history has grown by one session of the chair, which began at the counter. Each
+-- request stands at its top, an end at the horizon there; and where the core had not
+-- ticked since its last entry, no cycle passed before the start nor before another end
 pub record AddsKernel (chair : ℕ) (of : StartOf) (old new : CoreState) (k : KernelRun) : Type 0 where
   pub of_is : k.of ≡ of
   pub started : k.started ≡ old.counter
@@ -26,8 +28,8 @@ pub record AddsKernel (chair : ℕ) (of : StartOf) (old new : CoreState) (k : Ke
   pub at_top : AreAskedAtTop old.config old.history (session_entries chair old.history k)
   pub prompt : old.counter ≡ last_at old.history → ArePrompt old.history (session_entries chair old.history k)
 
--- its requests, outcome and cursor are those of the run of the code under its replies, which began so many instructions. The
--- replies fit their requests, and their numbers and the cursor at which the run began are of 64 bits
+-- its requests, outcome and cursor are those of the run of the code under its replies, which began so many
+-- instructions. The replies fit their requests, and their numbers and the cursor at which the run began are of 64 bits
 pub record RunsCode (code : Code) (units chair : ℕ) (config : Config) (before : List Entry) (k : KernelRun) : Type 0 where
   pub ran : Ran
   pub runs : Runs code k.of.function k.of.args (last_cursor before) units (replies_of k.asked) ran

@@ -25,8 +25,8 @@ entries_so_far chair s asked = open_entries chair s.of s.start.cursor s.before.c
 abbrev pub history_of : (chair : ℕ) → Session → List Answered → List Entry
 history_of chair s asked = s.before.history ++ entries_so_far chair s asked
 
--- the core has these answered requests of the session, each the one that the code asked next, and asked at its top; it has not
--- ticked since the last, and nothing waits; and these datasets are the ones that they set
+-- the core has these answered requests of the session, each the one that the code asked next, and asked at its top; it
+-- has not ticked since the last, and nothing waits; and these datasets are the ones that they set
 pub record HasAnswered (chair : ℕ) (s : Session) (asked : List Answered) (core : CoreState) (sets : List DataSet) : Type 0 where
   pub config : core.config ≡ s.before.config
   pub history : core.history ≡ history_of chair s asked
@@ -60,8 +60,8 @@ pub record IsAsking (chair : ℕ) (s : Session) (asked : List Answered) (request
 abbrev pub HasAsking : (chair : ℕ) → Request → CoreState → Moment → List DataSet → Type 0
 HasAsking chair request core now sets = (s : Session) × (asked : List Answered) × IsAsking chair s asked request core now sets
 
--- the session has ended so: its requests, outcome and cursor are those of the run under its replies, of which the processor
--- tells the number of instructions
+-- the session has ended so: its requests, outcome and cursor are those of the
+-- run under its replies, of which the processor tells the number of instructions
 pub record HasClosed (chair : ℕ) (s : Session) (asked : List Answered) (core : CoreState) (now : Moment) (sets : List DataSet) (how : Outcome) : Type 0 where
   pub cursor : ℤ
   pub history : core.history ≡ history_of chair s asked ++ entry_of chair (End how cursor core.counter) ∷ []

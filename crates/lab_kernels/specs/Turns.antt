@@ -57,7 +57,8 @@ pub record IsUndecided (old : CoreState) (request : Request) (new : CoreState) :
   pub same : request_waiting waiting ≡ request
   pub leaves : new ≡ waits_with (ticked_on old) waiting
 
--- what the answer says, and what the core is then. A request that has to be asked again is handed back, and no entry was added
+-- what the answer says, and what the core is then. A request that
+-- has to be asked again is handed back, and no entry was added
 abbrev pub IsTurn : CoreState → (chair : ℕ) → Request → Turn → CoreState → Type 0
 IsTurn old chair request (Replied reply) new = IsReplied old chair request reply new
 IsTurn old chair request (Again back) new =

@@ -9,8 +9,8 @@ use Rattle.sched_core.specs.Scheds.{HasCall, source_of_run}
 use Rattle.lab_kits.specs.Calls.{HasCallOf}
 use Rattle.lab_kits.specs.Texts.{IsKernelText}
 
--- the source of a run is the text of an accepted kernel, and each kernel step of its run stage names a function of that kernel,
--- which the step's arguments fit
+-- the source of a run is the text of an accepted kernel, and each kernel step of
+-- its run stage names a function of that kernel, which the step's arguments fit
 pub record IsAccepted (session : Session) (run : Run) : Type 0 where
   pub source : ℕ
   pub source_is : source_of_run session run ≡ Some source

@@ -1,5 +1,6 @@
 -- What the program answers and writes, and why.
-use Rattle.std.specs.Prelude.{◌≡◌, ◌≢◌, ℕ, ◌+◌, ◌≤◌, ◌<◌, Bool, ◌||◌, ◌==◌, nat_le, List, [], length, take, codes, Option}
+use Rattle.std.specs.Prelude.{◌≡◌, ◌≢◌, ℕ, ◌+◌, ◌≤◌, ◌<◌, Bool, ◌||◌, ◌==◌}
+use Rattle.std.specs.Prelude.{nat_le, List, [], length, take, codes, Option}
 use Rattle.std.specs.Io.KnownBytes.{Consumes, IsAtEnd, Appends}
 use Rattle.lab_io.specs.Causes.{Rose}
 use Rattle.exp_model.specs.declared.session.Session.{Session}

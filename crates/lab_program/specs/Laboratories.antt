@@ -13,14 +13,15 @@ use Rattle.stage_work.specs.Serving.{ArePrompt}
 abbrev pub ArePromptCores : List CoreState → Type 0
 ArePromptCores cores = (pipeline : ℕ) (core : CoreState) → slice_get cores pipeline ≡ Some core → ArePrompt [] core.history
 
--- The workers have done all that there was to do; and where there is one, it let no cycle pass but where a kernel waited
+-- The workers have done all that there was to do; and where
+-- there is one, it let no cycle pass but where a kernel waited
 pub record IsWorkedOff (session : Session) (sched : SchedValue) (cores : List CoreState) : Type 0 where
   pub finished : IsFinished session session.workers sched cores
   pub prompt : session.workers ≡ 1 → ArePromptCores cores
 
--- A core's history is lawful: each request stands at a counter that it may have, and got the right reply there. That counter is the
--- greatest that it may have, and an end at the horizon stands there. No request waits, and the core ticked until it was stopped; and
--- the headline holds of it
+-- A core's history is lawful: each request stands at a counter that it may have, and got the right
+-- reply there. That counter is the greatest that it may have, and an end at the horizon stands
+-- there. No request waits, and the core ticked until it was stopped; and the headline holds of it
 pub record IsRunCore (core : CoreState) : Type 0 where
   pub lawful : IsCore core
   pub at_top : AreAskedAtTop core.config [] core.history
@@ -28,9 +29,10 @@ pub record IsRunCore (core : CoreState) : Type 0 where
   pub stopped : core.counter ≡ core_top core
   pub headline : Headline core
 
--- A session's run by its workers came to its end. The scheduler's history is lawful, and so is that of each core. All was done: nothing
--- is in flight, nobody halted the scheduler, no arrival is left, and every run has ended; each source was judged rightly; and of each
--- chair and each pipeline the sessions on the core and the scheduler's reports of the kernel steps are of the same steps
+-- A session's run by its workers came to its end. The scheduler's history is lawful, and so is that
+-- of each core. All was done: nothing is in flight, nobody halted the scheduler, no arrival is left,
+-- and every run has ended; each source was judged rightly; and of each chair and each pipeline the
+-- sessions on the core and the scheduler's reports of the kernel steps are of the same steps
 pub record IsRunOf (session : Session) (sched : SchedValue) (cores : List CoreState) : Type 0 where
   pub lawful : IsSched sched
   pub done : IsWorkedOff session sched cores

@@ -42,7 +42,8 @@ abbrev pub cores_from : ℕ → List CoreState → List ℕ
 cores_from pipeline [] = []
 cores_from pipeline (core ∷ cores) = core_text pipeline core ++ cores_from (suc pipeline) cores
 
--- the steps in the order of the history, the runs by number, the datasets in the order of first setting, the cores by pipeline
+-- the steps in the order of the history, the runs by number, the
+-- datasets in the order of first setting, the cores by pipeline
 abbrev pub lab_text : SchedValue → List CoreState → List ℕ
 lab_text sched cores =
     flat_map step_line sched.history

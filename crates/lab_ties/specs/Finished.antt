@@ -14,8 +14,8 @@ use Rattle.lab_ties.specs.Judged.{IsJudged}
 use Rattle.lab_ties.specs.Settings.{config_at}
 use Rattle.lab_ties.specs.Ties.{AreTied}
 
--- The scheduler has this session, and nothing is in flight. No arrival is left, every run has ended, and nobody halted it. All
--- entries are of chairs below the number of workers; and each source was judged rightly
+-- The scheduler has this session, and nothing is in flight. No arrival is left, every run has ended, and nobody halted
+-- it. All entries are of chairs below the number of workers; and each source was judged rightly
 pub record IsFinishedSched (session : Session) (workers : ℕ) (sched : SchedValue) : Type 0 where
   pub session_is : sched.session ≡ session
   pub flying_is : (sched_state sched).flying ≡ []
@@ -24,9 +24,9 @@ pub record IsFinishedSched (session : Session) (workers : ℕ) (sched : SchedVal
   pub chairs : All (λ (entry : SchedEntry). entry.chair < workers) sched.history
   pub judged : All (λ (entry : SchedEntry). IsJudged session sched.history entry.act) sched.history
 
--- The core of a pipeline has the pipeline's settings, and no session is open on it. All entries are of chairs below the number of
--- workers; and of each chair the sessions on the core and the reports of the pipeline's kernel steps are the same steps, each once
--- and in one order
+-- The core of a pipeline has the pipeline's settings, and no session is open on it. All entries
+-- are of chairs below the number of workers; and of each chair the sessions on the core and the
+-- reports of the pipeline's kernel steps are the same steps, each once and in one order
 pub record IsFinishedCore (session : Session) (workers : ℕ) (sched : List SchedEntry) (pipeline : ℕ) (core : CoreState) : Type 0 where
   pub config : config_at session pipeline ≡ Some core.config
   pub closed : open_session core.history ≡ None

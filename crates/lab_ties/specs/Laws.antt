@@ -35,8 +35,8 @@ TiesLast =
     → AreTied session pipeline config chair sched reports history acts
     → AreTied session pipeline config chair (sched ++ more) reports (history ++ rest) acts
 
--- a chair's acts are tied with a session more, and with further acts at the scheduler that report it and no other kernel step of
--- the pipeline
+-- a chair's acts are tied with a session more, and with further acts at
+-- the scheduler that report it and no other kernel step of the pipeline
 abbrev pub TiesGrow : Type 0
 TiesGrow =
     (session : Session) (pipeline : ℕ) (config : Config) (chair : ℕ)
@@ -47,8 +47,8 @@ TiesGrow =
     → IsKernelStep session config sched pipeline chair now k
     → AreTied session pipeline config chair sched (reports ++ more) now (core_acts chair now)
 
--- where a step that runs a kernel was taken with its kit, and a session on a core is one of the kernel, with the budget of the
--- laboratory's session, that is a session of the step; and it stays one while the scheduler's history grows
+-- where a step that runs a kernel was taken with its kit, and a session on a core is one of the kernel, with the budget
+-- of the laboratory's session, that is a session of the step; and it stays one while the scheduler's history grows
 abbrev pub KernelsAreSteps : Type 0
 KernelsAreSteps =
     (session : Session) (sched more : List SchedEntry) (rid place pipeline chair function : ℕ)
@@ -64,8 +64,8 @@ abbrev pub JudgementsLast : Type 0
 JudgementsLast =
     (session : Session) (sched more : List SchedEntry) (act : SchedAct) → IsJudged session sched act → IsJudged session (sched ++ more) act
 
--- in the whole history of a finished core, whichever chairs made it, each request stands at the greatest counter that it may have,
--- and each end at the horizon stands there
+-- in the whole history of a finished core, whichever chairs made it, each request stands
+-- at the greatest counter that it may have, and each end at the horizon stands there
 abbrev pub CoresAreAskedAtTop : Type 0
 CoresAreAskedAtTop =
     (workers pipeline : ℕ) (sched : SchedValue) (core : CoreState) → IsSched sched → IsLawful core.config core.history

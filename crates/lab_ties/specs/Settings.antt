@@ -5,8 +5,8 @@ use Rattle.rtio_core.specs.Core.{CoreState, new_core}
 use Rattle.exp_model.specs.declared.session.Session.{Session}
 use Rattle.exp_model.specs.declared.session.Pipeline.{Pipeline}
 
--- those of a pipeline's core: the numbers of the session, and the pipeline's edges; each channel executes an event at once,
--- and no recording is handed in
+-- those of a pipeline's core: the numbers of the session, and the pipeline's
+-- edges; each channel executes an event at once, and no recording is handed in
 abbrev pub config_of : Session → Pipeline → Config
 config_of session pipeline = record {
   lanes = session.lanes;

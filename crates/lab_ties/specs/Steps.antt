@@ -26,9 +26,9 @@ abbrev pub start_of : Kit → (function : ℕ) → (args : List ℤ) → (rid pl
 start_of kit function args rid place =
     record { source = kit.source; function = function; args = args; rid = rid; pos = place }
 
--- A session is started for a step of a run: the run is of this pipeline; its experiment names this source, and as its step at
--- this position a kernel's with these arguments; and the source is the text of an accepted kernel, with this program, whose
--- function of this number has the name that the step calls, and takes the arguments
+-- A session is started for a step of a run: the run is of this pipeline; its experiment names this source, and as its
+-- step at this position a kernel's with these arguments; and the source is the text of an accepted kernel, with this
+-- program, whose function of this number has the name that the step calls, and takes the arguments
 pub record IsForStep (session : Session) (program : ProgramTree) (sched : List SchedEntry) (pipeline : ℕ) (of : StartOf) : Type 0 where
   pub run : Run
   pub found : run_of (state_after session sched).runs of.rid ≡ Some run
@@ -41,10 +41,10 @@ pub record IsForStep (session : Session) (program : ProgramTree) (sched : List S
   pub is_kernel : IsKernelText text program
   pub function : HasFunction program name of.args of.function
 
--- A session of a chair stands in a core's history, behind these entries and before those. Each request was asked as late as it
--- may be, and an end at the horizon stands there. Its requests, outcome and cursor are those of the program's meaning under its
--- own replies, with the units that the session of the laboratory gives; and it took as many instructions as a code that does
--- what the program does takes under them
+-- A session of a chair stands in a core's history, behind these entries and before those. Each request was asked as
+-- late as it may be, and an end at the horizon stands there. Its requests, outcome and cursor are those of the
+-- program's meaning under its own replies, with the units that the session of the laboratory gives; and it took as many
+-- instructions as a code that does what the program does takes under them
 pub record IsSession (session : Session) (program : ProgramTree) (config : Config) (chair : ℕ) (history : List Entry) (k : KernelRun) : Type 0 where
   pub before : List Entry
   pub after : List Entry

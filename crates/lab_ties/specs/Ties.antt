@@ -50,8 +50,9 @@ step_of k = (k.of.rid, k.of.pos)
 abbrev pub report_on : KernelRun → Report
 report_on k = record { rid = k.of.rid; place = k.of.pos; result = result_of k }
 
--- Of these acts of a chair, the sessions on a pipeline's core and the reports of kernel steps of the pipeline are of the same
--- steps, each once and in one order; each session is one of its step; and each report has the result of its session
+-- Of these acts of a chair, the sessions on a pipeline's core and the reports of
+-- kernel steps of the pipeline are of the same steps, each once and in one order;
+-- each session is one of its step; and each report has the result of its session
 pub record AreTied (session : Session) (pipeline : ℕ) (config : Config) (chair : ℕ) (sched : List SchedEntry) (reports : List SchedAct) (history : List Entry) (acts : List Act) : Type 0 where
   pub done : List KernelRun
   pub begun : steps_begun acts ≡ map step_of done

@@ -45,8 +45,9 @@ act_told session sched (report.Analyzed rid) = act.Analyzed rid
 abbrev pub HasRanAt : Session → (place : ℕ) → Option KernelResult → Run → Type 0
 HasRanAt session place ran run = (step : HostStep) × (slice_get (run_steps session run) place ≡ Some step) × HasResult (Some step) ran
 
--- It is right where this is the scheduler's history: the run is there. A source that is told to be accepted is, with a kit for the run, and
--- one that is told to be refused isn't accepted; a step's kit is one for the run, and has a result if it is a kernel's
+-- It is right where this is the scheduler's history: the run is there. A source that is
+-- told to be accepted is, with a kit for the run, and one that is told to be refused
+-- isn't accepted; a step's kit is one for the run, and has a result if it is a kernel's
 abbrev pub IsRight : Session → List SchedEntry → Report → Type 0
 IsRight session sched (report.Prepared rid kit) = OfRun session sched rid (λ run. IsKitOf session run kit × IsAccepted session run)
 IsRight session sched (report.Refused rid) = OfRun session sched rid (λ run. IsAccepted session run → ⊥)

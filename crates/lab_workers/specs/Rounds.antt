@@ -18,7 +18,8 @@ pub record KeepsRest (session : Session) (old new : WorkerValue) : Type 0 where
   pub rest : IsAtRest session old → IsAtRest session new
   pub halts_are : halts new.sched ≡ halts old.sched
 
--- how a worker ends: nothing is left to do and nobody halted the scheduler, or it is halted. Want of memory is no such end
+-- how a worker ends: nothing is left to do and nobody halted
+-- the scheduler, or it is halted. Want of memory is no such end
 abbrev pub IsEnd : Session → SchedChair → WorkEnd → Type 0
 IsEnd session chair Finished = (halted_by (sched_entries chair.seen) ≡ None) × IsTrue (is_over (state_after session (sched_entries chair.seen)))
 IsEnd session chair (Stopped by) = halted_by (sched_entries chair.seen) ≡ Some by

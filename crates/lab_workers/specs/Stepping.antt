@@ -16,8 +16,8 @@ use Rattle.desk_kernels.specs.Kernels.{RunsKernelAt}
 use Rattle.lab_workers.specs.declared.desks.Desks.{Desks}
 use Rattle.lab_workers.specs.Workers.{WorkerValue}
 
--- what the session of a kernel's step is started for: the function of the name that the step calls, which its arguments fit. Other steps
--- have no session
+-- what the session of a kernel's step is started for: the function of the name
+-- that the step calls, which its arguments fit. Other steps have no session
 abbrev pub IsStartFor : Kit → (rid place : ℕ) → HostStep → Option StartOf → Type 0
 IsStartFor kit rid place (Kernel name args) (Some of) =
     (function : ℕ) × HasFunction (program_in kit) name args function × (of ≡ start_of kit function args rid place)
@@ -30,8 +30,8 @@ abbrev pub MayStart : Kit → Option StartOf → Type 0
 MayStart kit None = Unit {0}
 MayStart kit (Some of) = TakesArguments (program_in kit) of.function of.args
 
--- the worker has run a kernel at the core of the pipeline, with the units of the laboratory's session, and the result is that of the
--- session; its other chairs are as they were
+-- the worker has run a kernel at the core of the pipeline, with the units of the laboratory's
+-- session, and the result is that of the session; its other chairs are as they were
 pub record RunsAt (desks : Desks) (pipeline : ℕ) (kit : Kit) (of : StartOf) (old new : WorkerValue) (result : KernelResult) : Type 0 where
   pub desk : Opened Config
   pub was : CoreChair

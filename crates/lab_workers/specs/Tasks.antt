@@ -33,7 +33,8 @@ step_job step = job.Step step.rid step.pos step.pipeline step.step step.kit
 abbrev pub IsStepIn : Session → List SchedEntry → StepTask → Type 0
 IsStepIn session sched step = IsJobFor kit_source KitText KitCall session (state_after session sched) (step_job step)
 
--- what a job has beside its name, where this is the scheduler's history: a preparation its run, a step what was given out with it
+-- what a job has beside its name, where this is the scheduler's
+-- history: a preparation its run, a step what was given out with it
 abbrev pub IsTaskIn : Session → List SchedEntry → Task → Type 0
 IsTaskIn session sched (task.Prepare rid run) = run_of (state_after session sched).runs rid ≡ Some run
 IsTaskIn session sched (task.Step step) = IsStepIn session sched step

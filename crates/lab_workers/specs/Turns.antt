@@ -31,8 +31,8 @@ pub record Follows (old new : SchedChair) : Type 0 where
   pub seen : IsPrefix old.seen new.seen
   pub own : IsPrefix old.own new.own
 
--- The chair found a lawful history that goes on from what it had seen, with just the acts of its own that it had put. Behind that it put
--- these acts, and has seen nothing further
+-- The chair found a lawful history that goes on from what it had seen, with just the acts
+-- of its own that it had put. Behind that it put these acts, and has seen nothing further
 pub record HasPut (session : Session) (found : List SchedEntry) (acts : List SchedAct) (old new : SchedChair) : Type 0 where
   pub lawful : IsLawful session found
   pub later : IsPrefix old.seen (booked_acts found)
@@ -41,7 +41,8 @@ pub record HasPut (session : Session) (found : List SchedEntry) (acts : List Sch
   pub seen : new.seen ≡ booked_acts (goes_on found old.number acts)
   pub own : new.own ≡ old.own ++ acts
 
--- the acts report no step of a kernel and halt nothing, and of sources they tell what is true where this is the scheduler's history
+-- the acts report no step of a kernel and halt nothing, and of sources
+-- they tell what is true where this is the scheduler's history
 pub record AreQuiet (session : Session) (sched : List SchedEntry) (acts : List SchedAct) : Type 0 where
   pub steps : (pipeline : ℕ) → reports_of pipeline acts ≡ []
   pub halts : filter is_halt acts ≡ []

@@ -33,7 +33,8 @@ IsFree number c = (c.number ≡ number) × (c.holds ≡ false)
 abbrev pub sched_entries : List (ℕ × SchedAct) → List SchedEntry
 sched_entries seen = map (λ (e : ℕ × SchedAct). record { chair = e.0; act = e.1 }) seen
 
--- the desks are those of this session: the scheduler's session is this one, and a core's settings are those of its pipeline
+-- the desks are those of this session: the scheduler's session
+-- is this one, and a core's settings are those of its pipeline
 pub record AreDesksOf (desks : Desks) : Type 0 where
   pub session : IsTrue (is_session desks.session)
   pub sched : desks.sched.fixed ≡ desks.session
@@ -44,7 +45,8 @@ pub record AreDesksOf (desks : Desks) : Type 0 where
 pub record IsWorkerAt (desks : Desks) (w : WorkerValue) : Type 0 where
   pub sched : w.sched.desk ≡ desks.sched.id
   pub count : length w.cores ≡ length desks.cores.items
-  pub cores : (pipeline : ℕ) (desk : Opened Config) (chair : CoreChair) → slice_get desks.cores.items pipeline ≡ Some desk → slice_get w.cores pipeline ≡ Some chair → chair.desk ≡ desk.id
+  pub cores : (pipeline : ℕ) (desk : Opened Config) (chair : CoreChair) → slice_get desks.cores.items pipeline ≡ Some desk
+      → slice_get w.cores pipeline ≡ Some chair → chair.desk ≡ desk.id
 
 -- what a worker has done on the core of a pipeline is what it reported of the pipeline's kernel steps
 abbrev pub IsTiedAt : Session → WorkerValue → ℕ → CoreChair → Type 0
@@ -56,8 +58,8 @@ IsTiedAt session w pipeline chair =
 abbrev pub IsClosed : (number : ℕ) → CoreChair → Type 0
 IsClosed number chair = (rid : ℕ) → open_session (core_entries chair.seen) ≡ Some (number, rid) → ⊥
 
--- Between two jobs: what a chair has seen has just the acts of its own that it put; no session of the worker is open on a core; on each
--- core it has done just what it reported; and each source that it reported was judged rightly
+-- Between two jobs: what a chair has seen has just the acts of its own that it put; no session of the worker is open on
+-- a core; on each core it has done just what it reported; and each source that it reported was judged rightly
 pub record IsAtRest (session : Session) (w : WorkerValue) : Type 0 where
   pub sched_own : KnowsItsOwn w.sched
   pub core_own : Each KnowsItsOwn w.cores

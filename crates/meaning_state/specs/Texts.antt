@@ -6,7 +6,8 @@ use Rattle.kern_syntax.specs.Tree.{Bytes}
 use Rattle.kern_calls.specs.declared.calls.Operation.{Operation}
 use Rattle.kern_calls.specs.declared.calls.Operation.TheVariants as P
 use Rattle.timeline_sem.specs.Actions.{Action, skip}
-use Rattle.timeline_sem.specs.Timeline.{first_of_list, second_of_list, output, pulse_for, move_to_real_time, reset_core, tell, play}
+use Rattle.timeline_sem.specs.Timeline.{first_of_list, second_of_list, output, pulse_for}
+use Rattle.timeline_sem.specs.Timeline.{move_to_real_time, reset_core, tell, play}
 
 -- a text is among what a method takes
 abbrev pub operation_takes_text : Operation → Bool

@@ -17,8 +17,8 @@ abbrev pub later_args : List ℤ → List ℤ
 later_args [] = []
 later_args (arg ∷ args) = args
 
--- a call, where so many further functions may be active: it takes a unit, and then raises, or gives how many may be active
--- beside the one that it enters
+-- a call, where so many further functions may be active: it takes a unit, and
+-- then raises, or gives how many may be active beside the one that it enters
 abbrev pub enter_call : (room : ℕ) → Action ℕ
 enter_call zero = take_unit >> stop (raised StackOverflow)
 enter_call (suc room) = take_unit >> give room

@@ -1,6 +1,9 @@
--- What running asks of expressions, which a checked program gives: literals of 64 bits, and a text where a call takes one.
+-- What running asks of expressions, which a checked program
+-- gives: literals of 64 bits, and a text where a call takes one.
 use Rattle.std.specs.Prelude.{◌≡◌, ◌<◌, ◌^◌, ℤ, Bool, true, false, Option, Some, None}
-use Rattle.kern_syntax.specs.Tree.{Bytes, Expression, integer, true_literal, false_literal, variable, element, group, unary, binary, compare, negation, conjunction, disjunction, call, method, Arguments, no_more, value_then, text_then}
+use Rattle.kern_syntax.specs.Tree.{Bytes, Expression, integer, true_literal, false_literal, variable}
+use Rattle.kern_syntax.specs.Tree.{element, group, unary, binary, compare, negation, conjunction}
+use Rattle.kern_syntax.specs.Tree.{disjunction, call, method, Arguments, no_more, value_then, text_then}
 use Rattle.kern_calls.specs.declared.calls.Builtin.{Builtin}
 use Rattle.kern_calls.specs.declared.calls.Builtin.TheVariants as B
 use Rattle.kern_calls.specs.declared.calls.Operation.{Operation}

@@ -1,9 +1,16 @@
 -- What running asks is a fact, so that a type can keep it.
 use Rattle.std.specs.Prelude.{List, [], ◌∷◌, Option, Some, None}
 use Rattle.std.proofs.Props.{props}
-use Rattle.kern_syntax.specs.Tree.{Expression, integer, true_literal, false_literal, variable, element, group, unary, binary, compare, negation, conjunction, disjunction, call, method, Arguments, no_more, value_then, text_then, Statement, pass, break, continue, return, evaluate, assign, assign_element, augment, augment_element, assign_repeated, assign_list, if_then, while_do, for_range, parallel, sequential, record_as, try_do, Block, done, line_then, Otherwise, no_else, else_do, elif_then, Handlers, no_handler, except_then, ProgramTree}
+use Rattle.kern_syntax.specs.Tree.{Expression, integer, true_literal, false_literal, variable, element, group}
+use Rattle.kern_syntax.specs.Tree.{unary, binary, compare, negation, conjunction, disjunction, call, method}
+use Rattle.kern_syntax.specs.Tree.{Arguments, no_more, value_then, text_then, Statement, pass, break, continue}
+use Rattle.kern_syntax.specs.Tree.{return, evaluate, assign, assign_element, augment, augment_element}
+use Rattle.kern_syntax.specs.Tree.{assign_repeated, assign_list, if_then, while_do, for_range, parallel}
+use Rattle.kern_syntax.specs.Tree.{sequential, record_as, try_do, Block, done, line_then, Otherwise, no_else}
+use Rattle.kern_syntax.specs.Tree.{else_do, elif_then, Handlers, no_handler, except_then, ProgramTree}
 use Rattle.meaning_steps.specs.Runnable.{BuiltinIsTold, CallIsTold, MethodIsTold, IsRunnable, AreRunnable}
-use Rattle.meaning_steps.specs.RunnableStatements.{IfThereRunnable, EachRunnable, IsRunnableStatement, IsRunnableBlock, IsRunnableOtherwise, AreRunnableHandlers, AreRunnableFunctions}
+use Rattle.meaning_steps.specs.RunnableStatements.{IfThereRunnable, EachRunnable, IsRunnableStatement, IsRunnableBlock}
+use Rattle.meaning_steps.specs.RunnableStatements.{IsRunnableOtherwise, AreRunnableHandlers, AreRunnableFunctions}
 use Rattle.kern_calls.specs.declared.calls.Builtin.{Builtin}
 use Rattle.kern_calls.specs.declared.calls.Builtin.TheVariants as B
 use Rattle.kern_calls.specs.declared.calls.Operation.{Operation}

@@ -1,6 +1,10 @@
 -- What running asks of statements and functions, which a checked program gives.
 use Rattle.std.specs.Prelude.{List, [], ◌∷◌, Option, Some, None}
-use Rattle.kern_syntax.specs.Tree.{Expression, Statement, pass, break, continue, return, evaluate, assign, assign_element, augment, augment_element, assign_repeated, assign_list, if_then, while_do, for_range, parallel, sequential, record_as, try_do, Block, done, line_then, Otherwise, no_else, else_do, elif_then, Handlers, no_handler, except_then, ProgramTree}
+use Rattle.kern_syntax.specs.Tree.{Expression, Statement, pass, break, continue, return, evaluate}
+use Rattle.kern_syntax.specs.Tree.{assign, assign_element, augment, augment_element, assign_repeated}
+use Rattle.kern_syntax.specs.Tree.{assign_list, if_then, while_do, for_range, parallel, sequential}
+use Rattle.kern_syntax.specs.Tree.{record_as, try_do, Block, done, line_then, Otherwise, no_else}
+use Rattle.kern_syntax.specs.Tree.{else_do, elif_then, Handlers, no_handler, except_then, ProgramTree}
 use Rattle.meaning_steps.specs.Runnable.{IsRunnable}
 
 -- an expression that may be missing

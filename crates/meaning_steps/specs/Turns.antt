@@ -11,8 +11,8 @@ use Rattle.timeline_sem.specs.Actions.{State, Completion, Action, normal, ◌>>=
 use Rattle.timeline_sem.specs.Expressions.{operate, write, write_element}
 use Rattle.timeline_sem.specs.Statements.{operator_of}
 
--- where the answer is true the next part goes on from what is left, where it is false all is done; or the part ends early,
--- unless memory ran out
+-- where the answer is true the next part goes on from what is left, where
+-- it is false all is done; or the part ends early, unless memory ran out
 abbrev pub GoesOn : Result Bool Early → (left : State) → (meant : Completion ⊤) → (next : Action ⊤) → Type 0
 GoesOn (Ok true) left meant next = meant ≡ next left
 GoesOn (Ok false) left meant next = meant ≡ normal tt left

@@ -1,6 +1,8 @@
 -- Edges, holds and recordings in words.
 use Rattle.std.specs.Bool.{then_some}
-use Rattle.std.specs.Prelude.{ℕ, ◌^◌, ◌-◌, ◌&&◌, ◌||◌, Bool, true, false, List, [], ◌∷◌, fold, replicate, nat_le, nat_lt, pos, Option, Some, None, is_some, not, option_map, option_and_then, bytes_eq, codes, slice_set, if◌then◌else◌}
+use Rattle.std.specs.Prelude.{ℕ, ◌^◌, ◌-◌, ◌&&◌, ◌||◌, Bool, true, false, List, [], ◌∷◌, fold}
+use Rattle.std.specs.Prelude.{replicate, nat_le, nat_lt, pos, Option, Some, None, is_some, not}
+use Rattle.std.specs.Prelude.{option_map, option_and_then, bytes_eq, codes, slice_set, if◌then◌else◌}
 use Rattle.std.specs.List.{list_all}
 use Rattle.std.specs.Result.{result_ok}
 use Rattle.hex.specs.Hex.{decode_of}

@@ -10,7 +10,8 @@ use Rattle.output_merge.specs.Groups.{is_logged_before}
 abbrev pub hold_of : List ℕ → ℕ → ℕ
 hold_of holds channel = get_or holds channel 0
 
--- an event keeps its channel busy for another: one of the same channel and a later cycle, which lies less than the hold behind it
+-- an event keeps its channel busy for another: one of the same
+-- channel and a later cycle, which lies less than the hold behind it
 abbrev pub keeps_busy : List ℕ → (earlier later : ℕ × Event) → Bool
 keeps_busy holds q p =
     (q.1.channel == p.1.channel)
@@ -20,7 +21,8 @@ keeps_busy holds q p =
 abbrev pub is_busy : List ℕ → (out : List (ℕ × Event)) → ℕ × Event → Bool
 is_busy holds out p = list_any (λ q. keeps_busy holds q p) out
 
--- of keepers by rising cycle, those that aren't busy: behind some that were put out, and each of them behind those before it
+-- of keepers by rising cycle, those that aren't busy: behind some
+-- that were put out, and each of them behind those before it
 abbrev pub put_out_behind : List ℕ → (out : List (ℕ × Event)) → List (ℕ × Event) → List (ℕ × Event)
 put_out_behind holds out [] = []
 put_out_behind holds out (p ∷ rest) =

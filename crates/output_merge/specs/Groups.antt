@@ -1,5 +1,6 @@
 -- Events of one channel and cycle: which one is put out, which are overridden, and which collide.
-use Rattle.std.specs.Prelude.{ℕ, Bool, true, false, ◌&&◌, ◌||◌, ◌==◌, List, [], ◌∷◌, filter, fold, if◌then◌else◌, nat_lt, ℤ, int_lt}
+use Rattle.std.specs.Prelude.{ℕ, Bool, true, false, ◌&&◌, ◌||◌, ◌==◌, List, []}
+use Rattle.std.specs.Prelude.{◌∷◌, filter, fold, if◌then◌else◌, nat_lt, ℤ, int_lt}
 use Rattle.std.specs.Ordering.{int_eq}
 use Rattle.rtio_types.specs.declared.event.Event.{Event}
 use Rattle.rtio_types.specs.Time.{cycle_of}

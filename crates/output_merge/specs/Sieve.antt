@@ -1,5 +1,6 @@
 -- What a sieve knows of the channels, and what it leaves.
-use Rattle.std.specs.Prelude.{◌≡◌, ℕ, ◌+◌, Bool, not, ◌==◌, List, [], ◌∷◌, ◌++◌, filter, if◌then◌else◌, get_or, map, max, nat_lt, set}
+use Rattle.std.specs.Prelude.{◌≡◌, ℕ, ◌+◌, Bool, not, ◌==◌, List, [], ◌∷◌, ◌++◌}
+use Rattle.std.specs.Prelude.{filter, if◌then◌else◌, get_or, map, max, nat_lt, set}
 use Rattle.std.specs.List.{list_all, range_with_len}
 use Rattle.rtio_types.specs.declared.event.Event.{Event}
 use Rattle.rtio_types.specs.Time.{cycle_of}
@@ -30,8 +31,8 @@ holds_after holds out =
 abbrev pub are_before : ℕ → List (ℕ × Event) → Bool
 are_before cycle out = list_all (λ q. nat_lt (cycle_of q.1) cycle) out
 
--- the keepers that aren't busy stay as they stand; the busy ones come behind those that were there, by channel and number;
--- and those that stay are put out
+-- the keepers that aren't busy stay as they stand; the busy ones come behind
+-- those that were there, by channel and number; and those that stay are put out
 pub record IsSieved (holds : List ℕ) (out : List (ℕ × Event)) (kept busy : HeadsState) (self : HoldsState) (kept_left busy_left : HeadsState) : Type 0 where
   pub stay : kept_left.items ≡ filter (λ p. not (is_busy holds out p)) kept.items
   pub leave : busy_left.items ≡ busy.items ++ sorted is_logged_before (filter (λ p. is_busy holds out p) kept.items)

@@ -1,10 +1,12 @@
 -- Where bytes that spell no recording are first wrong.
-use Rattle.std.specs.Prelude.{ℕ, zero, suc, ◌+◌, Bool, true, not, ◌&&◌, ◌||◌, ◌==◌, nat_le, nat_lt, List, [], ◌∷◌, ◌++◌, length, find, drop, slice_index, Option, option_map}
+use Rattle.std.specs.Prelude.{ℕ, zero, suc, ◌+◌, Bool, true, not, ◌&&◌, ◌||◌, ◌==◌, nat_le, nat_lt}
+use Rattle.std.specs.Prelude.{List, [], ◌∷◌, ◌++◌, length, find, drop, slice_index, Option, option_map}
 use Rattle.rtio_types.specs.Board.{kind_of_channel, has_address}
 use Rattle.recording_bytes.specs.declared.format.Format.{Format}
 use Rattle.recording_bytes.specs.declared.format.Format.TheVariants.{Fixed, Short}
 use Rattle.recording_bytes.specs.Numbers.{is_short}
-use Rattle.recording_bytes.specs.Reading.{count_read, data_bytes, data_width, event_size, format_read, step_bytes, step_width}
+use Rattle.recording_bytes.specs.Reading.{count_read, data_bytes, data_width, event_size}
+use Rattle.recording_bytes.specs.Reading.{format_read, step_bytes, step_width}
 
 -- a field: where it begins, whether the bytes go on to its end, and whether it is in its range
 pub record Field : Type 0 where

@@ -1,5 +1,6 @@
 -- Numbers in as few bytes as they need, and signed numbers as unsigned ones.
-use Rattle.std.specs.Prelude.{ℕ, zero, suc, ◌+◌, ◌*◌, ◌/◌, ◌%◌, Bool, true, not, ◌==◌, List, [], ◌∷◌, ℤ, pos, negsuc, if◌then◌else◌}
+use Rattle.std.specs.Prelude.{ℕ, zero, suc, ◌+◌, ◌*◌, ◌/◌, ◌%◌, Bool, true, not}
+use Rattle.std.specs.Prelude.{◌==◌, List, [], ◌∷◌, ℤ, pos, negsuc, if◌then◌else◌}
 use Rattle.std.specs.Int.{int_wrapping_sub, w64}
 
 -- the bytes of a number, low byte first, as few as it needs: none for 0, and at most so many

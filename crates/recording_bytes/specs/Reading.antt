@@ -1,6 +1,7 @@
 -- Stated a second time for the proof's sake: the recording that bytes spell by Spelling.antt, as the code reads it.
 -- The places of wrong fields in Fields.antt rest on it too.
-use Rattle.std.specs.Prelude.{ℕ, zero, suc, ◌+◌, ◌/◌, ◌%◌, ◌==◌, ℤ, pos, List, [], ◌∷◌, take, drop, slice_index, if◌then◌else◌}
+use Rattle.std.specs.Prelude.{ℕ, zero, suc, ◌+◌, ◌/◌, ◌%◌, ◌==◌, ℤ, pos, List}
+use Rattle.std.specs.Prelude.{[], ◌∷◌, take, drop, slice_index, if◌then◌else◌}
 use Rattle.std.specs.Int.{cast_signed, from_le_bytes, int_wrapping_add, w32, w64}
 use Rattle.rtio_types.specs.Recordings.{Recorded}
 use Rattle.rtio_types.specs.declared.event.Event.{Event}

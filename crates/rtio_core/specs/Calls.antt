@@ -45,8 +45,8 @@ asked_again_at core (waiting.Out e) = until (lanes_at core.config core.history c
 asked_again_at core (waiting.Wait until) = counter_reaching until
 asked_again_at core (waiting.Edge channel up_to) = counter_reaching up_to
 
--- what an answer to a request says, and what it leaves: the right reply, which becomes an entry; that the request isn't decided
--- at the counter, and now waits; or that another one waits
+-- what an answer to a request says, and what it leaves: the right reply, which becomes an entry; that the request isn't
+-- decided at the counter, and now waits; or that another one waits
 abbrev pub AnswersAsk : CoreState → ℕ → Request → Ask → CoreState → Type 0
 AnswersAsk old chair request (ask.Reply reply) new =
     NoOtherWaits old.waiting request × (reply_to old.config old.history request old.counter ≡ Some reply)

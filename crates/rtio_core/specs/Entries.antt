@@ -1,5 +1,6 @@
 -- The history of a core.
-use Rattle.std.specs.Prelude.{ℕ, ◌+◌, Bool, ◌&&◌, List, filter_map, fold, max, nat_le, bytes_eq, if◌then◌else◌, ℤ, pos, Option, Some, None}
+use Rattle.std.specs.Prelude.{ℕ, ◌+◌, Bool, ◌&&◌, List, filter_map, fold, max, nat_le}
+use Rattle.std.specs.Prelude.{bytes_eq, if◌then◌else◌, ℤ, pos, Option, Some, None}
 use Rattle.std.specs.List.{list_all}
 use Rattle.rtio_types.specs.declared.request.Reply.{Reply}
 use Rattle.rtio_types.specs.declared.request.Reply.TheVariants as answer
@@ -21,8 +22,8 @@ use Rattle.rtio_core.specs.declared.data.Entry.{Entry}
 abbrev pub are_holds_ok : List ℕ → Bool
 are_holds_ok holds = list_all (λ hold. nat_le hold 1000000) holds
 
--- the numbers of the settings are in their ranges: 1 to 32 lanes of 1 to 1,024 events, a cost of up to 1,000,000 mu, and a
--- horizon of 1 to 576,460,752,303,423,488 cycles; the edges can be a script, and the recordings can be kept
+-- the numbers of the settings are in their ranges: 1 to 32 lanes of 1 to 1,024 events, a cost of up to 1,000,000 mu,
+-- and a horizon of 1 to 576,460,752,303,423,488 cycles; the edges can be a script, and the recordings can be kept
 abbrev pub is_config_ok : Config → Bool
 is_config_ok config =
     nat_le 1 config.lanes && nat_le config.lanes 32

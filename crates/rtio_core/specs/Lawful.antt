@@ -20,8 +20,8 @@ abbrev pub end_top : Config → List Entry → Outcome → ℕ
 end_top config history outcome.Horizon = config.horizon
 end_top config history other = top config history None
 
--- what may come next: a start where no session is open, with the last cursor; a request of the open session's chair with
--- the right reply; or that session's end. None is earlier than the last entry or later than the counter goes
+-- what may come next: a start where no session is open, with the last cursor; a request of the open session's chair
+-- with the right reply; or that session's end. None is earlier than the last entry or later than the counter goes
 abbrev pub MayFollow : Config → List Entry → ℕ → Act → Type 0
 MayFollow config before chair (Start of cursor at) =
     (open_session before ≡ None) × (cursor ≡ last_cursor before) × (last_at before ≤ at) × (at ≤ top config before None)

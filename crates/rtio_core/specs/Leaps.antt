@@ -20,8 +20,8 @@ waits_to core (Some (waiting.Wait until)) = counter_reaching until
 waits_to core (Some (waiting.Edge channel up_to)) =
     if is_decided core.config core.history (request_waiting (waiting.Edge channel up_to)) core.counter then 0 else counter_reaching up_to
 
--- up to which counter the core goes on then: to the limit or as long as the request waits; with no session open to the last
--- event that is still to be put out; never beyond the horizon
+-- up to which counter the core goes on then: to the limit or as long as the request waits; with no session open to the
+-- last event that is still to be put out; never beyond the horizon
 abbrev pub goes_to : CoreState → ℕ
 goes_to core = min (reach (open_session core.history)) core.config.horizon
   where

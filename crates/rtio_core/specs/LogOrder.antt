@@ -34,8 +34,8 @@ lines_of_cycle holds judged cycle =
     lines_for kind.Collision (filter (λ p. cycle_of p.1 == cycle) (collisions (live judged)))
     ++ lines_for kind.Busy (filter (λ p. cycle_of p.1 == cycle) (busy holds (keepers (live judged))))
 
--- all lines up to a counter: of each cycle first those that the tick to that counter adds, and then those of what was asked
--- at that counter. No event is accepted for cycle 0
+-- all lines up to a counter: of each cycle first those that the tick to that counter adds,
+-- and then those of what was asked at that counter. No event is accepted for cycle 0
 abbrev pub log_lines : (holds : List ℕ) → List Judged → ℕ → List LogLine
 log_lines holds judged zero = lines_of_steps 0 [] judged
 log_lines holds judged (suc c) = log_lines holds judged c ++ lines_of_cycle holds judged (suc c) ++ lines_of_steps (suc c) [] judged

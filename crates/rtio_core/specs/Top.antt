@@ -13,7 +13,8 @@ abbrev pub least_from : (ℕ → Bool) → ℕ → ℕ → ℕ
 least_from test from zero = from
 least_from test from (suc more) = elim (test from) [ true ↦ from | false ↦ least_from test (from + 1) more ]
 
--- the least counter, not below the last entry's, at which the request is decided, and the horizon if it is decided at none before
+-- the least counter, not below the last entry's, at which the request
+-- is decided, and the horizon if it is decided at none before
 abbrev pub first_decided : Config → List Entry → Request → ℕ
 first_decided config history request =
     least_from (is_decided config history request) (last_at history) (config.horizon - last_at history)

@@ -1,6 +1,6 @@
-mod Lists
+pub mod Lists
 mod Submitting
-mod Placed
+pub mod Placed
 mod Grouped
 mod Kept
 mod Headlines

@@ -1,5 +1,6 @@
 -- What a core puts out, in the words of what it was asked.
-use Rattle.std.specs.Prelude.{◌≡◌, ℕ, ◌≤◌, ◌<◌, ◌⊎◌, ◌↔◌, Bool, true, false, ◌&&◌, ◌||◌, List, [], ◌∷◌, ◌++◌, map, count_by, nat_lt, int_lt, IsTrue}
+use Rattle.std.specs.Prelude.{◌≡◌, ℕ, ◌≤◌, ◌<◌, ◌⊎◌, ◌↔◌, Bool, true, false, ◌&&◌, ◌||◌}
+use Rattle.std.specs.Prelude.{List, [], ◌∷◌, ◌++◌, map, count_by, nat_lt, int_lt, IsTrue}
 use Rattle.std.specs.Ordering.{int_eq}
 use Rattle.rtio_types.specs.declared.event.Event.{Event}
 use Rattle.rtio_types.specs.declared.request.Request.TheVariants as ask
@@ -28,8 +29,8 @@ abbrev pub done_output : (number : ℕ) → Act → List (ℕ × Event)
 done_output number (Asked (ask.Out e) answer.Done at) = (number, e) ∷ []
 done_output number act = []
 
--- the outputs that some entries behind others submitted, each with its number: how many outputs were asked before it, those that
--- came too late among them
+-- the outputs that some entries behind others submitted, each with its number:
+-- how many outputs were asked before it, those that came too late among them
 abbrev pub submitted_behind : (before rest : List Entry) → List (ℕ × Event)
 submitted_behind before [] = []
 submitted_behind before (entry ∷ rest) = done_output (outputs_asked before) entry.act ++ submitted_behind (before ++ entry ∷ []) rest
@@ -43,7 +44,8 @@ abbrev pub IsAmong : ℕ × Event → List (ℕ × Event) → Type 0
 IsAmong p [] = ⊥
 IsAmong p (q ∷ rest) = (p ≡ q) ⊎ IsAmong p rest
 
--- on a channel that replaces, an event is overridden by a later one of the channel with its stamp that isn't out of sequence
+-- on a channel that replaces, an event is overridden by a later
+-- one of the channel with its stamp that isn't out of sequence
 pub record IsOverridden (events : List (ℕ × Event)) (log : LogLists) (p : ℕ × Event) : Type 0 where
   pub replacing : IsTrue (replaces p.1.channel)
   pub other : ℕ × Event
@@ -57,7 +59,8 @@ pub record IsOverridden (events : List (ℕ × Event)) (log : LogLists) (p : ℕ
 abbrev pub IsNamed : LogLists → ℕ × Event → Type 0
 IsNamed log p = IsAmong p log.sequence ⊎ (IsAmong p log.collided ⊎ (IsAmong p log.busy ⊎ IsAmong p log.cleared))
 
--- an event is put out: it was submitted, the counter has reached its cycle, and it is neither overridden nor named by the log
+-- an event is put out: it was submitted, the counter has reached
+-- its cycle, and it is neither overridden nor named by the log
 pub record IsPutOut (core : CoreState) (p : ℕ × Event) : Type 0 where
   pub asked : IsAmong p (submitted core.history)
   pub reached : cycle_of p.1 ≤ core.counter
@@ -74,16 +77,16 @@ AreInOrder [] = Unit {0}
 AreInOrder (e ∷ []) = Unit {0}
 AreInOrder (e ∷ f ∷ rest) = (is_before e f ≡ true) × AreInOrder (f ∷ rest)
 
--- the events put out up to the counter are, in the order of their stamps, exactly those submitted up to it, less those overridden
--- and those that the log names
+-- the events put out up to the counter are, in the order of their stamps, exactly
+-- those submitted up to it, less those overridden and those that the log names
 pub record PutsOut (core : CoreState) : Type 0 where
   pub events : List (ℕ × Event)
   pub are : map (λ p. p.1) events ≡ outputs_at core.config core.history core.counter
   pub in_order : AreInOrder (outputs_at core.config core.history core.counter)
   pub exactly : (p : ℕ × Event) → IsAmong p events ↔ IsPutOut core p
 
--- an output behind some entries underflows exactly where the counter has reached its cycle, and then submits nothing: only those
--- before it are submitted
+-- an output behind some entries underflows exactly where the counter has reached
+-- its cycle, and then submits nothing: only those before it are submitted
 abbrev pub UnderflowsExactly : (before : List Entry) → (chair : ℕ) → Act → Type 0
 UnderflowsExactly before chair (Asked (ask.Out e) reply at) =
     ((reply ≡ answer.Underflow) ↔ (cycle_of e ≤ at))

@@ -1,5 +1,6 @@
 -- What the calls of the inputs ask and leave.
-use Rattle.std.specs.Prelude.{◌≡◌, ℕ, ◌-◌, Bool, ◌&&◌, ◌==◌, IsTrue, List, [], ◌∷◌, map, filter, fold, set, replicate, nat_lt, nat_le, int_le, if◌then◌else◌, length, Option, Some}
+use Rattle.std.specs.Prelude.{◌≡◌, ℕ, ◌-◌, Bool, ◌&&◌, ◌==◌, IsTrue, List, [], ◌∷◌, map, filter, fold}
+use Rattle.std.specs.Prelude.{set, replicate, nat_lt, nat_le, int_le, if◌then◌else◌, length, Option, Some}
 use Rattle.std.specs.List.{list_all, range_with_len}
 use Rattle.rtio_types.specs.declared.event.Edge.{Edge}
 use Rattle.rtio_types.specs.declared.event.Event.{Event}
@@ -7,7 +8,8 @@ use Rattle.rtio_types.specs.declared.request.Reply.{Reply}
 use Rattle.rtio_types.specs.declared.request.Reply.TheVariants as answer
 use Rattle.rtio_types.specs.Time.{cycle_of}
 use Rattle.rtio_input.specs.Script.{are_by_cycle, are_of_inputs, edge_cycle, later_edges}
-use Rattle.rtio_input.specs.Channel.{Unread, ChannelState, InputsState, closed_channel, channel_at, after_edge, after_read, after_overflow}
+use Rattle.rtio_input.specs.Channel.{Unread, ChannelState, InputsState, closed_channel}
+use Rattle.rtio_input.specs.Channel.{channel_at, after_edge, after_read, after_overflow}
 use Rattle.rtio_input.specs.Past.{InputStep, Read, Overflowed, last_value, sees}
 
 -- no edge to come is of a cycle before this one
@@ -26,8 +28,8 @@ closed_channels = replicate 8 closed_channel
 abbrev pub are_of_cycle : ℕ → List Event → Bool
 are_of_cycle cycle events = list_all (λ e. cycle_of e == cycle) events
 
--- the sensitivity at an edge: the data of the last of the events of its channel that have no greater stamp, and what was
--- before if there is none
+-- the sensitivity at an edge: the data of the last of the events of its
+-- channel that have no greater stamp, and what was before if there is none
 abbrev pub sensitivity_among : ℕ → List Event → Edge → ℕ
 sensitivity_among before kept x = last_value before (filter (λ e. (e.channel == x.channel) && int_le e.stamp x.stamp) kept)
 

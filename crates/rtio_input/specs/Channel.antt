@@ -1,5 +1,6 @@
 -- One input, and the reply to a request for its next edge.
-use Rattle.std.specs.Prelude.{ℕ, ◌-◌, Bool, true, false, List, [], ◌∷◌, ◌++◌, length, get_or, nat_lt, ℤ, pos, int_le, int_lt, if◌then◌else◌, Option, Some, None, option_map, slice_get}
+use Rattle.std.specs.Prelude.{ℕ, ◌-◌, Bool, true, false, List, [], ◌∷◌, ◌++◌, length, get_or, nat_lt, ℤ}
+use Rattle.std.specs.Prelude.{pos, int_le, int_lt, if◌then◌else◌, Option, Some, None, option_map, slice_get}
 use Rattle.rtio_types.specs.declared.event.Edge.{Edge}
 use Rattle.rtio_types.specs.declared.request.Reply.{Reply}
 use Rattle.rtio_types.specs.declared.request.Reply.TheVariants as answer

@@ -1,13 +1,16 @@
 -- What an input has unread, by all that happened.
-use Rattle.std.specs.Prelude.{◌≡◌, ℕ, ◌+◌, ◌/◌, ◌%◌, Bool, true, IsTrue, ◌&&◌, ◌==◌, List, [], ◌∷◌, map, filter, fold, nat_lt, nat_le, int_le, if◌then◌else◌, Option, Some, None}
+use Rattle.std.specs.Prelude.{◌≡◌, ℕ, ◌+◌, ◌/◌, ◌%◌, Bool, true, IsTrue, ◌&&◌, ◌==◌, List, [], ◌∷◌, map}
+use Rattle.std.specs.Prelude.{filter, fold, nat_lt, nat_le, int_le, if◌then◌else◌, Option, Some, None}
 use Rattle.std.specs.List.{list_all, range_with_len}
 use Rattle.rtio_types.specs.declared.event.Edge.{Edge}
 use Rattle.rtio_types.specs.declared.event.Event.{Event}
 use Rattle.rtio_types.specs.Time.{cycle_of}
 use Rattle.rtio_input.specs.Script.{are_edges_ok, edge_cycle, edges_up_to, later_edges}
-use Rattle.rtio_input.specs.Channel.{Unread, ChannelState, InputsState, nothing_unread, after_edge, after_read, after_overflow}
+use Rattle.rtio_input.specs.Channel.{Unread, ChannelState, InputsState, nothing_unread}
+use Rattle.rtio_input.specs.Channel.{after_edge, after_read, after_overflow}
 
--- what a request did to the inputs at a counter: it read the first edge of one, it was answered an overflow, or it reset all
+-- what a request did to the inputs at a counter: it read the
+-- first edge of one, it was answered an overflow, or it reset all
 pub data InputStep : Type 0 where
   Read : (at channel : ℕ) → InputStep
   Overflowed : (at channel : ℕ) → InputStep

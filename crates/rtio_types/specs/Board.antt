@@ -1,5 +1,6 @@
 -- The board: which channels there are, what each does, which addresses it has and what it is called.
-use Rattle.std.specs.Prelude.{ℕ, ◌+◌, ◌-◌, ◌/◌, ◌%◌, List, [], ◌∷◌, ◌++◌, Bool, true, false, nat_lt, ◌==◌, if◌then◌else◌, Option, Some, None, codes, bytes_eq}
+use Rattle.std.specs.Prelude.{ℕ, ◌+◌, ◌-◌, ◌/◌, ◌%◌, List, [], ◌∷◌, ◌++◌, Bool, true, false}
+use Rattle.std.specs.Prelude.{nat_lt, ◌==◌, if◌then◌else◌, Option, Some, None, codes, bytes_eq}
 use Rattle.std.specs.List.{find, range_with_len, list_all}
 use Rattle.rtio_types.specs.declared.board.ChannelKind.{ChannelKind}
 use Rattle.rtio_types.specs.declared.board.ChannelKind.TheVariants.{Out, OutRaw, Input}

@@ -1,5 +1,6 @@
 -- What the calls of a scheduler answer and leave.
-use Rattle.std.specs.Prelude.{◌≡◌, ◌≢◌, ◌==◌, ◌&&◌, ℕ, ◌+◌, Bool, true, false, List, [], ◌∷◌, ◌++◌, map, slice_get, slice_set, ℤ, Option, Some, None, option_map, IsTrue}
+use Rattle.std.specs.Prelude.{◌≡◌, ◌≢◌, ◌==◌, ◌&&◌, ℕ, ◌+◌, Bool, true, false, List, [], ◌∷◌, ◌++◌}
+use Rattle.std.specs.Prelude.{map, slice_get, slice_set, ℤ, Option, Some, None, option_map, IsTrue}
 use Rattle.exp_runs.specs.declared.run.Run.{Run}
 use Rattle.exp_runs.specs.declared.run.Status.{Status}
 use Rattle.exp_runs.specs.declared.run.Status.TheVariants.{RunDone}
@@ -49,8 +50,8 @@ module _ {P : Type 0} where
   name_of (job.Step rid place pipeline step kit) = name.Step rid place
   name_of (job.Analyze rid) = name.Analyze rid
 
-  -- what a job has beside its name: a preparation the run's source; a step the run's pipeline, the step of its experiment, and
-  -- what is kept of its source
+  -- what a job has beside its name: a preparation the run's source; a step the
+  -- run's pipeline, the step of its experiment, and what is kept of its source
   abbrev pub IsJobFor : (P → ℕ) → (P → List ℕ → Type 0) → (P → List ℕ → List ℤ → Type 0) → Session → SchedState → Job P → Type 0
   IsJobFor source stands_for has_call session state (job.Prepare rid number) =
       (run : Run) × (run_of state.runs rid ≡ Some run) × (source_of_run session run ≡ Some number)
@@ -110,8 +111,8 @@ IsLate state job other = ⊥
 abbrev pub IsOwnKit : Session → SchedState → ℕ → ℕ → Type 0
 IsOwnKit session state rid source = (run : Run) × (run_of state.runs rid ≡ Some run) × (source_of_run session run ≡ Some source)
 
--- why a report is refused: no run has the number; else the job isn't in flight; else the kit is of another source; else for want of
--- memory
+-- why a report is refused: no run has the number; else the job isn't in
+-- flight; else the kit is of another source; else for want of memory
 abbrev pub IsWhy : Session → SchedState → JobName → Option ℕ → Why → Type 0
 IsWhy session state job source why.NoRun = run_of state.runs (rid_of job) ≡ None
 IsWhy session state job source (why.WrongStatus status) =
@@ -137,7 +138,9 @@ found_pipeline (Some run) = run.pipeline
 -- a step's report, with the run's pipeline, and the clock and word that it has to have
 abbrev pub stepped : ℕ → ℕ → ℕ → Option KernelResult → SchedValue → SchedValue
 stepped who rid place result sched =
-    with_entry who (Stepped rid place (found_pipeline (run_of (sched_state sched).runs rid)) ((sched_state sched).clock + 1) result (step_effect sched.session rid place result (sched_state sched)).word) sched
+    with_entry who
+    (Stepped rid place (found_pipeline (run_of (sched_state sched).runs rid)) ((sched_state sched).clock + 1) result
+    (step_effect sched.session rid place result (sched_state sched)).word) sched
 
 -- a kit of the run's own source is one for the run
 abbrev pub KitFits : {P : Type 0} → (P → ℕ) → (P → List ℕ → Type 0) → (P → List ℕ → List ℤ → Type 0) → SchedValue → ℕ → P → Type 0

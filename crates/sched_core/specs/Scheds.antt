@@ -43,7 +43,8 @@ module _ {P : Type 0} where
   HasCall has_call kit (Kernel name args) = has_call kit name args
   HasCall has_call kit other = Unit {0}
 
-  -- what is kept of an experiment's source is of that source, stands for its text, and has the functions of its kernel steps
+  -- what is kept of an experiment's source is of that source,
+  -- stands for its text, and has the functions of its kernel steps
   abbrev pub IsKitIn : (P → ℕ) → (P → List ℕ → Type 0) → (P → List ℕ → List ℤ → Type 0) → Session → ℕ → P → Type 0
   IsKitIn source stands_for has_call session experiment kit =
       record {

@@ -1,5 +1,6 @@
 -- What holds of every lawful history: preemption, and datasets.
-use Rattle.std.specs.Prelude.{◌≡◌, ℕ, ◌≤◌, ◌<ℤ◌, true, false, List, [], ◌∷◌, ◌++◌, filter, length, slice_get, if◌then◌else◌, Option, Some, None, IsTrue}
+use Rattle.std.specs.Prelude.{◌≡◌, ℕ, ◌≤◌, ◌<ℤ◌, true, false, List, [], ◌∷◌, ◌++◌, filter}
+use Rattle.std.specs.Prelude.{length, slice_get, if◌then◌else◌, Option, Some, None, IsTrue}
 use Rattle.exp_runs.specs.declared.run.Run.{Run}
 use Rattle.exp_runs.specs.declared.run.Status.TheVariants.{Prepared, Paused}
 use Rattle.exp_runs.specs.Keys.{run_of, some_higher}
@@ -37,8 +38,8 @@ pub record BeganWhenDue (session : Session) (history : List SchedEntry) (run : R
   pub began : (early : List SchedEntry) × (chair : ℕ) × (late : List SchedEntry) × (history ≡ early ++ takes chair (Prepare run.rid) ∷ late)
   pub due : (early late : List SchedEntry) (chair : ℕ) → history ≡ early ++ takes chair (Prepare run.rid) ∷ late → run.due ≤ (state_after session early).clock
 
--- the run comes upon its pipeline's stack by a step of it that is taken: it is prepared, and was due; and each run that stands there
--- is paused and has a lower priority
+-- the run comes upon its pipeline's stack by a step of it that is taken: it is prepared,
+-- and was due; and each run that stands there is paused and has a lower priority
 pub record Preempts (session : Session) (before : List SchedEntry) (entry : SchedEntry) (upper : Run) : Type 0 where
   pub taken : (place : ℕ) × (entry.act ≡ act.Took (Step upper.rid place))
   pub prepared : upper.status ≡ Prepared

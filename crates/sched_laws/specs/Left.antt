@@ -1,9 +1,11 @@
 -- How many jobs are left, and that each is reported once.
-use Rattle.std.specs.Prelude.{◌≡◌, ℕ, ◌+◌, ◌-◌, ◌*◌, ◌≤◌, Bool, List, ◌∷◌, ◌++◌, length, count_by, is_some, Some, IsTrue}
+use Rattle.std.specs.Prelude.{◌≡◌, ℕ, ◌+◌, ◌-◌, ◌*◌, ◌≤◌, Bool, List, ◌∷◌}
+use Rattle.std.specs.Prelude.{◌++◌, length, count_by, is_some, Some, IsTrue}
 use Rattle.std.specs.List.{AllByRecursion, sum_by}
 use Rattle.exp_runs.specs.declared.run.Run.{Run}
 use Rattle.exp_runs.specs.declared.run.Status.{Status}
-use Rattle.exp_runs.specs.declared.run.Status.TheVariants.{Pending, Preparing, Prepared, Running, Paused, RunDone, Analyzing}
+use Rattle.exp_runs.specs.declared.run.Status.TheVariants.{Pending, Preparing, Prepared}
+use Rattle.exp_runs.specs.declared.run.Status.TheVariants.{Running, Paused, RunDone, Analyzing}
 use Rattle.exp_model.specs.declared.session.Session.{Session}
 use Rattle.exp_model.specs.Sessions.{is_session}
 use Rattle.sched_state.specs.declared.entry.JobName.{JobName}

@@ -1,6 +1,7 @@
--- What holds of each state that a lawful history leads to: where each run stands, which of its jobs is in flight, and who is
--- on the stacks.
-use Rattle.std.specs.Prelude.{◌≡◌, ◌<ℤ◌, ℕ, ◌+◌, ◌^◌, ◌≤◌, ◌<◌, Bool, true, false, List, [], ◌∷◌, filter, map, length, ◌==◌, ◌⊎◌, Option, Some, IsTrue}
+-- What holds of each state that a lawful history leads to: where each
+-- run stands, which of its jobs is in flight, and who is on the stacks.
+use Rattle.std.specs.Prelude.{◌≡◌, ◌<ℤ◌, ℕ, ◌+◌, ◌^◌, ◌≤◌, ◌<◌, Bool, true, false, List, []}
+use Rattle.std.specs.Prelude.{◌∷◌, filter, map, length, ◌==◌, ◌⊎◌, Option, Some, IsTrue}
 use Rattle.std.specs.List.{AllByRecursion, list_any}
 use Rattle.exp_runs.specs.declared.run.Run.{Run}
 use Rattle.exp_runs.specs.declared.run.Status.{Status}

@@ -1,5 +1,7 @@
--- What the workers of a laboratory rest on: which jobs are in flight and how they stand, and that what is over stays over.
-use Rattle.std.specs.Prelude.{◌≡◌, ◌↔◌, ℕ, ◌≤◌, ◌<◌, ◌==◌, not, List, [], ◌∷◌, ◌++◌, filter, length, slice_get, Option, Some, None, IsTrue}
+-- What the workers of a laboratory rest on: which jobs are in
+-- flight and how they stand, and that what is over stays over.
+use Rattle.std.specs.Prelude.{◌≡◌, ◌↔◌, ℕ, ◌≤◌, ◌<◌, ◌==◌, not, List, [], ◌∷◌, ◌++◌}
+use Rattle.std.specs.Prelude.{filter, length, slice_get, Option, Some, None, IsTrue}
 use Rattle.std.specs.List.{AllByRecursion}
 use Rattle.exp_runs.specs.declared.run.Run.{Run}
 use Rattle.exp_runs.specs.declared.run.Status.{Status}

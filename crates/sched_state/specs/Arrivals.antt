@@ -1,9 +1,11 @@
 -- What arrives, and what it changes.
-use Rattle.std.specs.Prelude.{ℕ, Bool, true, false, ◌&&◌, ◌||◌, not, List, [], ◌∷◌, ◌++◌, filter, fold, length, nat_le, if◌then◌else◌, Option, Some, None}
+use Rattle.std.specs.Prelude.{ℕ, Bool, true, false, ◌&&◌, ◌||◌, not, List, [], ◌∷◌, ◌++◌}
+use Rattle.std.specs.Prelude.{filter, fold, length, nat_le, if◌then◌else◌, Option, Some, None}
 use Rattle.exp_runs.specs.declared.run.Run.{Run}
 use Rattle.exp_runs.specs.declared.run.Status.TheVariants.{Pending, Deleted}
 use Rattle.exp_runs.specs.Keys.{run_of}
-use Rattle.exp_runs.specs.Statuses.{is_pending, is_preparing, is_prepared, is_running, is_paused, is_analyzing, is_ended}
+use Rattle.exp_runs.specs.Statuses.{is_pending, is_preparing, is_prepared}
+use Rattle.exp_runs.specs.Statuses.{is_running, is_paused, is_analyzing, is_ended}
 use Rattle.exp_runs.specs.Table.{with_fields}
 use Rattle.exp_model.specs.declared.session.Session.{Session}
 use Rattle.exp_model.specs.declared.arrival.Arrival.{Arrival}

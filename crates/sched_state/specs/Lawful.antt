@@ -1,5 +1,6 @@
 -- Which histories a scheduler may have.
-use Rattle.std.specs.Prelude.{◌≡◌, ℕ, ◌+◌, Bool, true, false, List, [], ◌∷◌, ◌++◌, fold, slice_get, Option, Some, None, option_map}
+use Rattle.std.specs.Prelude.{◌≡◌, ℕ, ◌+◌, Bool, true, false, List, [], ◌∷◌, ◌++◌}
+use Rattle.std.specs.Prelude.{fold, slice_get, Option, Some, None, option_map}
 use Rattle.exp_runs.specs.declared.run.Run.{Run}
 use Rattle.exp_runs.specs.Keys.{run_of}
 use Rattle.exp_model.specs.declared.session.Session.{Session}
@@ -10,7 +11,8 @@ use Rattle.sched_state.specs.declared.entry.JobName.{JobName}
 use Rattle.sched_state.specs.declared.entry.JobName.TheVariants.{Prepare, Step, Analyze}
 use Rattle.sched_state.specs.declared.entry.KernelResult.{KernelResult}
 use Rattle.sched_state.specs.declared.entry.SchedAct.{SchedAct}
-use Rattle.sched_state.specs.declared.entry.SchedAct.TheVariants.{Took, Prepared, Stepped, Analyzed, SourceRefused, Jumped, Halted}
+use Rattle.sched_state.specs.declared.entry.SchedAct.TheVariants.{Took, Prepared, Stepped, Analyzed}
+use Rattle.sched_state.specs.declared.entry.SchedAct.TheVariants.{SourceRefused, Jumped, Halted}
 use Rattle.sched_state.specs.declared.entry.SchedEntry.{SchedEntry}
 use Rattle.sched_state.specs.State.{SchedState}
 use Rattle.sched_state.specs.Arrivals.{at_clock, opening}

@@ -6,8 +6,8 @@ use Rattle.sched_state.specs.declared.looking.Look.TheVariants.{Over, Due, Wait,
 use Rattle.sched_state.specs.State.{SchedState}
 use Rattle.sched_state.specs.Picks.{is_over, next_date, pick}
 
--- the first that holds: all is over; a job is due; one is in flight; the clock moves on. Else the state is stuck, which none that a
--- lawful history leads to is
+-- the first that holds: all is over; a job is due; one is in flight; the clock
+-- moves on. Else the state is stuck, which none that a lawful history leads to is
 abbrev pub LooksAs : Session → SchedState → Look → Type 0
 LooksAs session state Over = is_over state ≡ true
 LooksAs session state (Due job) = (is_over state ≡ false) × (pick session state ≡ Some job)

@@ -1,10 +1,12 @@
 -- Which job is due.
-use Rattle.std.specs.Prelude.{ℕ, Bool, false, ◌&&◌, not, List, [], ◌∷◌, ◌++◌, map, filter, fold, length, min, slice_get, nat_lt, ◌==◌, int_lt, if◌then◌else◌, Option, Some, None, option_map}
+use Rattle.std.specs.Prelude.{ℕ, Bool, false, ◌&&◌, not, List, [], ◌∷◌, ◌++◌, map, filter, fold, length, min}
+use Rattle.std.specs.Prelude.{slice_get, nat_lt, ◌==◌, int_lt, if◌then◌else◌, Option, Some, None, option_map}
 use Rattle.std.specs.List.{list_any, list_all, range_with_len}
 use Rattle.exp_runs.specs.declared.run.Run.{Run}
 use Rattle.exp_runs.specs.declared.run.Status.TheVariants.{Preparing, Running, Analyzing}
 use Rattle.exp_runs.specs.Keys.{best, can_prepare, can_run, can_analyze, is_higher, is_of, run_of, some_higher}
-use Rattle.exp_runs.specs.Statuses.{is_pending, is_preparing, is_prepared, is_running, is_analyzing, is_started, is_ended}
+use Rattle.exp_runs.specs.Statuses.{is_pending, is_preparing, is_prepared}
+use Rattle.exp_runs.specs.Statuses.{is_running, is_analyzing, is_started, is_ended}
 use Rattle.exp_runs.specs.Table.{with_status}
 use Rattle.exp_model.specs.declared.session.Session.{Session}
 use Rattle.exp_model.specs.declared.arrival.Arrival.{Arrival}
@@ -21,9 +23,9 @@ prepared_above runs clock (Some run) = list_any (λ (other : Run). is_prepared o
 abbrev pub prepared_higher : List Run → ℕ → ℕ → Bool
 prepared_higher runs rid clock = prepared_above runs clock (run_of runs rid)
 
--- what the top of a pipeline's stack decides: while it runs it goes on; where it is paused, the best prepared run takes its place
--- if a prepared one is higher, it waits if another run is higher, and else goes on. Where the stack is empty the best prepared
--- run begins
+-- what the top of a pipeline's stack decides: while it runs it goes on; where it is paused,
+-- the best prepared run takes its place if a prepared one is higher, it waits if another
+-- run is higher, and else goes on. Where the stack is empty the best prepared run begins
 abbrev pub by_top : List Run → ℕ → ℕ → Option ℕ → Option ℕ
 by_top runs clock pipeline None = best (can_run pipeline) runs
 by_top runs clock pipeline (Some top) =

@@ -1,5 +1,6 @@
 -- What the report of a job changes.
-use Rattle.std.specs.Prelude.{ℕ, ◌+◌, Bool, ◌&&◌, List, [], count_by, length, nat_le, nat_lt, slice_get, if◌then◌else◌, Option, Some, None}
+use Rattle.std.specs.Prelude.{ℕ, ◌+◌, Bool, ◌&&◌, List, [], count_by, length, nat_le}
+use Rattle.std.specs.Prelude.{nat_lt, slice_get, if◌then◌else◌, Option, Some, None}
 use Rattle.rtio_types.specs.declared.outcome.Outcome.{Outcome}
 use Rattle.rtio_types.specs.declared.outcome.Outcome.TheVariants as outcome
 use Rattle.exp_runs.specs.declared.run.Run.{Run}
@@ -38,8 +39,8 @@ after_stage next rid done state =
     let now = with_run (with_status (if done.fine then next else status.Failed)) rid state in
     record now { datasets = datasets_after done.changes state.datasets }
 
--- a run was prepared or analyzed: it is deleted if it was doomed, with no step done; else its steps are done, up to the first
--- that fails
+-- a run was prepared or analyzed: it is deleted if it was doomed, with
+-- no step done; else its steps are done, up to the first that fails
 abbrev pub staged_run : (Experiment → List HostStep) → Status → Session → ℕ → SchedState → Option Run → SchedState
 staged_run of_stage next session rid state None = state
 staged_run of_stage next session rid state (Some run) =
@@ -149,8 +150,8 @@ step_effect_of session place result now None = goes_on now
 step_effect_of session place result now (Some run) =
     settled session run (run_effect session run (slice_get (run_steps session run) place) result now)
 
--- the report of a step at this position: the clock rises, what arrives is taken, the position rises; then the step has its
--- effect
+-- the report of a step at this position: the clock rises, what
+-- arrives is taken, the position rises; then the step has its effect
 abbrev pub after_clock : ℕ → SchedState → SchedState
 after_clock rid state = with_run moved_on rid (at_clock (state.clock + 1) state)
 

@@ -11,8 +11,8 @@ use Rattle.sched_state.specs.declared.entry.Flight.{Flight}
 use Rattle.sched_state.specs.declared.entry.JobName.{JobName}
 use Rattle.sched_state.specs.declared.entry.JobName.TheVariants.{Prepare, Step, Analyze}
 
--- the runs by number; those that hold a core, the last one that got it first; the jobs in flight; the lab clock; what is still to
--- arrive; the datasets
+-- the runs by number; those that hold a core, the last one that got it first;
+-- the jobs in flight; the lab clock; what is still to arrive; the datasets
 pub record SchedState : Type 0 where
   pub runs : List Run
   pub stack : List ℕ

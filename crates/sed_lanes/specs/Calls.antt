@@ -1,5 +1,6 @@
 -- What the calls of the lanes answer and leave.
-use Rattle.std.specs.Prelude.{◌≡◌, ℕ, Bool, not, ◌==◌, List, length, map, filter, pos, Option, Some, None, nat_le, nat_lt}
+use Rattle.std.specs.Prelude.{◌≡◌, ℕ, Bool, not, ◌==◌, List, length, map}
+use Rattle.std.specs.Prelude.{filter, pos, Option, Some, None, nat_le, nat_lt}
 use Rattle.std.specs.List.{list_all}
 use Rattle.rtio_types.specs.declared.event.Event.{Event}
 use Rattle.rtio_types.specs.Time.{cycle_of}

@@ -1,5 +1,6 @@
 -- The lanes as they stand at a counter.
-use Rattle.std.specs.Prelude.{ℕ, ◌+◌, ◌%◌, Bool, true, List, [], ◌∷◌, ◌++◌, length, get_or, set, replicate, Option, Some, None, nat_lt, nat_le, flat_map}
+use Rattle.std.specs.Prelude.{ℕ, ◌+◌, ◌%◌, Bool, true, List, [], ◌∷◌, ◌++◌, length, get_or}
+use Rattle.std.specs.Prelude.{set, replicate, Option, Some, None, nat_lt, nat_le, flat_map}
 use Rattle.rtio_types.specs.declared.event.Event.{Event}
 use Rattle.rtio_types.specs.Time.{cycle_of}
 

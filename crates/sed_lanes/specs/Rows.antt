@@ -1,5 +1,6 @@
 -- A lane as the code keeps it.
-use Rattle.std.specs.Prelude.{ℕ, ◌^◌, ◌≤◌, ◌<◌, All, Bool, true, false, ◌&&◌, List, [], ◌∷◌, IsTrue, Option, Some, None, nat_lt, nat_le, length, flat_map, map, nat_eq}
+use Rattle.std.specs.Prelude.{ℕ, ◌^◌, ◌≤◌, ◌<◌, All, Bool, true, false, ◌&&◌, List, [], ◌∷◌, IsTrue}
+use Rattle.std.specs.Prelude.{Option, Some, None, nat_lt, nat_le, length, flat_map, map, nat_eq}
 use Rattle.std.specs.List.{list_all, IsDistinct}
 use Rattle.std.specs.Map.{keys_of}
 use Rattle.rtio_types.specs.declared.event.Event.{Event}

@@ -1,5 +1,6 @@
 -- What the program answers and writes, and why.
-use Rattle.std.specs.Prelude.{◌≡◌, ℕ, ◌+◌, ◌≤◌, ◌<◌, List, length, take, Bool, Option, Some, None, IsSome, codes, nat_le, ◌⊎◌}
+use Rattle.std.specs.Prelude.{◌≡◌, ℕ, ◌+◌, ◌≤◌, ◌<◌, List, length, take, Bool}
+use Rattle.std.specs.Prelude.{Option, Some, None, IsSome, codes, nat_le, ◌⊎◌}
 use Rattle.std.specs.Io.KnownBytes.{Consumes, IsAtEnd, Appends}
 use Rattle.lab_io.specs.Causes.{Rose}
 use Rattle.kern_syntax.specs.Tree.{ProgramTree}
@@ -9,7 +10,8 @@ use Rattle.core_image.specs.Spelling.{image_of}
 use Rattle.code_law.specs.DoesAs.{DoesAs}
 use Rattle.kernel_gen.specs.Generated.{kernel_text}
 use Rattle.sim_words.specs.declared.asked.Asked.{Asked}
-use Rattle.sim_words.specs.declared.asked.Asked.TheVariants.{Sim, Generated, Check, Compile, Exec, Gen, Dump, Vcd, Sat, Slack}
+use Rattle.sim_words.specs.declared.asked.Asked.TheVariants.{Sim, Generated, Check, Compile}
+use Rattle.sim_words.specs.declared.asked.Asked.TheVariants.{Exec, Gen, Dump, Vcd, Sat, Slack}
 use Rattle.sim_program.specs.declared.report.Form.TheVariants.{Report, Summary, Bytes}
 use Rattle.sim_program.specs.Texts.{IsKernelText, IsTextRefused}
 use Rattle.core_analyzer.specs.Dumps.{Dumped}
@@ -93,9 +95,10 @@ pub record CompilesText (text written : List ℕ) : Type 0 where
   pub does : DoesAs program code
   pub image : written ≡ image_of code
 
--- the bytes and the status that a command owes: the report of a run of the kernel or of the image, and its status; the summary of
--- a run of the generated kernel; the bytes of what the core did in a run of the kernel; the lines of a link over which the events of a
--- run of the kernel are sent; or with status 0 the canonical text, the image, the generated text itself, or the waveform
+-- the bytes and the status that a command owes: the report of a run of the kernel or of the image,
+-- and its status; the summary of a run of the generated kernel; the bytes of what the core did in
+-- a run of the kernel; the lines of a link over which the events of a run of the kernel are sent;
+-- or with status 0 the canonical text, the image, the generated text itself, or the waveform
 abbrev pub IsDue : Asked → (text written : List ℕ) → (status : ℕ) → Type 0
 IsDue (Sim options dma) text written status = Tells (RunsKernel options text) (Report dma) options.budget written status
 IsDue (Generated number options) text written status = Tells (RunsKernel options text) Summary options.budget written status
@@ -108,8 +111,8 @@ IsDue Vcd text written status = DrawsWave text written × (status ≡ 0)
 IsDue (Sat options word) text written status = TellsLink options word text written status
 IsDue (Slack cost depth) text written status = TellsSlack cost depth text written × (status ≡ 0)
 
--- the bytes that a command takes: a text of an accepted kernel, for `exec` an image of accepted code, or for `vcd` a dump whose
--- stamps are at least 8
+-- the bytes that a command takes: a text of an accepted kernel, for `exec`
+-- an image of accepted code, or for `vcd` a dump whose stamps are at least 8
 abbrev pub IsTaken : Asked → (text : List ℕ) → Type 0
 IsTaken (Sim options dma) text = (program : ProgramTree) × IsKernelText text program
 IsTaken (Generated number options) text = (program : ProgramTree) × IsKernelText text program

@@ -21,8 +21,8 @@ finish_of (outcome.Raised x) pending = Raised
 finish_of outcome.Budget pending = Unfinished
 finish_of outcome.Horizon pending = Unfinished
 
--- the status of a run: 7 where the units were used up or the last cycle was reached, or where the kernel returned and an event is
--- still to be put out
+-- the status of a run: 7 where the units were used up or the last cycle was
+-- reached, or where the kernel returned and an event is still to be put out
 abbrev pub status_of : Finish → ℕ
 status_of Whole = 0
 status_of Raised = 6
@@ -33,8 +33,8 @@ abbrev pub dma_part : (dma : Bool) → CoreState → List ℕ
 dma_part true core = dma_text core
 dma_part false core = []
 
--- the text of a run in its form: the report, with the lines of the kept recordings behind it where they are asked for, the
--- summary, or the bytes of what the core did
+-- the text of a run in its form: the report, with the lines of the kept recordings
+-- behind it where they are asked for, the summary, or the bytes of what the core did
 abbrev pub told_text : Form → CoreState → (budget size steps : ℕ) → List ℕ
 told_text (Report dma) core budget size steps = report_text core budget size steps ++ dma_part dma core
 told_text Summary core budget size steps = summary_text core budget size steps

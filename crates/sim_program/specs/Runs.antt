@@ -29,16 +29,17 @@ pub record IsMain (program : ProgramTree) (index : ℕ) : Type 0 where
   pub found : slice_get program index ≡ Some function
   pub named : function.name ≡ codes "main"
 
--- the core that is reported is the one that the session left, after it went on until it was stopped. Its history is lawful: each
--- request stands at a counter that it may have, and got the right reply there. And the headline holds of it
+-- the core that is reported is the one that the session left, after it went on
+-- until it was stopped. Its history is lawful: each request stands at a counter
+-- that it may have, and got the right reply there. And the headline holds of it
 pub record IsReported (left core : CoreState) : Type 0 where
   pub drained : core ≡ drained left
   pub lawful : IsCore core
   pub headline : Headline core
 
--- a session of a program's `main` on a new core: its requests, outcome and cursor are what the program means under its replies,
--- and history and counter are the ones that the options' schedule makes of that, step by step. In lockstep each request was asked
--- where the core had stopped
+-- a session of a program's `main` on a new core: its requests, outcome and cursor are what the
+-- program means under its replies, and history and counter are the ones that the options' schedule
+-- makes of that, step by step. In lockstep each request was asked where the core had stopped
 pub record RunsMain (program : ProgramTree) (options : Options) (main : ℕ) (left : CoreState) (how : Outcome) : Type 0 where
   pub is_main : IsMain program main
   pub session : MeansSession program options.budget (start_of main) (new_core options.config) left how
@@ -64,8 +65,8 @@ pub record RunsKernel (options : Options) (text : List ℕ) (core : CoreState) (
   pub counted : IsCounted program options main left how size steps
   pub reported : IsReported left core
 
--- a run of the accepted code whose image the bytes are leaves this core: the session's requests, outcome and cursor are those of
--- the code's run under its replies
+-- a run of the accepted code whose image the bytes are leaves this core: the session's
+-- requests, outcome and cursor are those of the code's run under its replies
 pub record RunsImage (options : Options) (bytes : List ℕ) (core : CoreState) (how : Outcome) (size steps : ℕ) : Type 0 where
   pub code : Code
   pub accepted : IsAcceptedImage bytes code

@@ -6,8 +6,8 @@ use Rattle.slack_check.specs.Lines.{slack_line}
 use Rattle.slack_check.specs.Mains.{MainNeverUnderflows, verdict_of_main}
 use Rattle.sim_program.specs.Texts.{IsKernelText}
 
--- the bytes are the line of the verdict on the kernel that the text is, at a cost of a request and for lanes that take so many
--- events at least. Where it is a yes, no output of the kernel's first session on such a core comes too late
+-- the bytes are the line of the verdict on the kernel that the text is, at a cost of a request and for lanes that take
+-- so many events at least. Where it is a yes, no output of the kernel's first session on such a core comes too late
 pub record TellsSlack (cost depth : ℕ) (text written : List ℕ) : Type 0 where
   pub program : ProgramTree
   pub is_kernel : IsKernelText text program

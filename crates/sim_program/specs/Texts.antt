@@ -82,5 +82,6 @@ pub data IsProgramRefused (program : ProgramTree) (told : Bytes) : Type 0 where
 -- why a text is no accepted kernel's, and the line that says so
 pub data IsTextRefused (text : Bytes) (told : Bytes) : Type 0 where
   no_tokens : (fault : LexFault) → HasFault text fault → told ≡ lex_line fault.at fault.kind → IsTextRefused text told
-  no_tree : (tokens : List Token) → HasTokens text tokens → (place : ℕ) (token : Token) → IsFirstFault (lexemes_of text tokens) place → slice_get tokens place ≡ Some token → told ≡ syntax_line place token.at → IsTextRefused text told
+  no_tree : (tokens : List Token) → HasTokens text tokens → (place : ℕ) (token : Token)
+      → IsFirstFault (lexemes_of text tokens) place → slice_get tokens place ≡ Some token → told ≡ syntax_line place token.at → IsTextRefused text told
   no_kernel : (program : ProgramTree) → IsTextOf text program → IsProgramRefused program told → IsTextRefused text told

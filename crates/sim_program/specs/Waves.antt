@@ -11,8 +11,8 @@ pub record IsWaveDump (bytes : List ℕ) (dump : Dumped) : Type 0 where
   pub spelled : IsSpelling bytes dump
   pub late : are_behind_first_cycle dump.events ≡ true
 
--- the bytes written are the waveform of the dump that the others spell; read from them alone, the level of a channel at a time is
--- the data of its last event up to it
+-- the bytes written are the waveform of the dump that the others spell; read from
+-- them alone, the level of a channel at a time is the data of its last event up to it
 pub record DrawsWave (bytes written : List ℕ) : Type 0 where
   pub dump : Dumped
   pub taken : IsWaveDump bytes dump

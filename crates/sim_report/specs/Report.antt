@@ -7,7 +7,8 @@ use Rattle.rtio_core.specs.Told.{log_at, peaks_at}
 use Rattle.rtio_core.specs.Core.{CoreState}
 use Rattle.sim_report.specs.Datasets.{datasets_of}
 use Rattle.sim_report.specs.Ends.{end_of}
-use Rattle.sim_report.specs.Lines.{code_line, count_line, data_line, end_lines, event_line, lanes_line, log_line, moment_line}
+use Rattle.sim_report.specs.Lines.{code_line, count_line, data_line, end_lines}
+use Rattle.sim_report.specs.Lines.{event_line, lanes_line, log_line, moment_line}
 use Rattle.sim_report.specs.Pending.{pending_events}
 
 -- the log by its kinds: sequence errors, collisions, busy channels, cleared events

@@ -1,5 +1,6 @@
 -- What the words of `artiq_sim` ask.
-use Rattle.std.specs.Prelude.{ℕ, ◌≤◌, Bool, true, false, List, [], ◌∷◌, ◌++◌, is_some, Option, Some, None, IfSome, IsTrue, option_map, option_and_then, bytes_eq, unwrap_or, codes, if◌then◌else◌}
+use Rattle.std.specs.Prelude.{ℕ, ◌≤◌, Bool, true, false, List, [], ◌∷◌, ◌++◌, is_some, Option, Some, None, IfSome}
+use Rattle.std.specs.Prelude.{IsTrue, option_map, option_and_then, bytes_eq, unwrap_or, codes, if◌then◌else◌}
 use Rattle.std.specs.Bool.{then_some}
 use Rattle.std.specs.Option.{option_map_or}
 use Rattle.rtio_types.specs.declared.event.Edge.{Edge}
@@ -14,7 +15,8 @@ use Rattle.option_values.specs.Schedules.{schedule_of}
 use Rattle.option_values.specs.Lists.{edges_of, holds_of, no_holds, recordings_of}
 use Rattle.sim_words.specs.Given.{Given, given_of, value_of}
 use Rattle.sim_words.specs.declared.asked.Asked.{Asked}
-use Rattle.sim_words.specs.declared.asked.Asked.TheVariants.{Sim, Generated, Check, Compile, Exec, Gen, Dump, Vcd, Sat, Slack}
+use Rattle.sim_words.specs.declared.asked.Asked.TheVariants.{Sim, Generated, Check, Compile}
+use Rattle.sim_words.specs.declared.asked.Asked.TheVariants.{Exec, Gen, Dump, Vcd, Sat, Slack}
 use Rattle.sim_words.specs.declared.asked.Options.{Options}
 
 -- ---- one option
@@ -191,8 +193,8 @@ options_in Vcd = None
 options_in (Sat options word) = Some options
 options_in (Slack cost depth) = None
 
--- a core can be made with the settings, and the budget is of 1 to 1,000,000 units; a cost and a depth without other settings are
--- those that a core may have
+-- a core can be made with the settings, and the budget is of 1 to 1,000,000
+-- units; a cost and a depth without other settings are those that a core may have
 abbrev pub IsAccepted : Asked → Type 0
 IsAccepted (Slack cost depth) = (cost ≤ 1000000) × (1 ≤ depth) × (depth ≤ 1024)
 IsAccepted asked =

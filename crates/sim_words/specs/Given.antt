@@ -1,5 +1,6 @@
 -- The options that words give: `--name value` or `--name=value`, in any order, each at most once.
-use Rattle.std.specs.Prelude.{ℕ, Bool, true, not, ◌==◌, ◌&&◌, List, [], ◌∷◌, find, is_some, Option, Some, None, option_map, option_and_then, bytes_eq, if◌then◌else◌}
+use Rattle.std.specs.Prelude.{ℕ, Bool, true, not, ◌==◌, ◌&&◌, List, [], ◌∷◌, find, is_some, Option}
+use Rattle.std.specs.Prelude.{Some, None, option_map, option_and_then, bytes_eq, if◌then◌else◌}
 use Rattle.std.specs.Bool.{then_some}
 use Rattle.std.specs.List.{list_any}
 use Rattle.std.specs.Option.{option_map_or}
@@ -10,8 +11,8 @@ pub record Given : Type 0 where
   pub name : List ℕ
   pub value : List ℕ
 
--- what a word is where no option waits for its value: an option with its value, an option whose value is the next word, or
--- no option
+-- what a word is where no option waits for its value: an option with
+-- its value, an option whose value is the next word, or no option
 pub data Seen : Type 0 where
   Whole : (name value : List ℕ) → Seen
   Begun : (name : List ℕ) → Seen
@@ -37,7 +38,8 @@ behind (Whole name value) rest = option_map (λ given. record { name = name; val
 behind (Begun name) rest = rest (Some name)
 behind Other rest = None
 
--- the options that the words give, where an option may wait for its value; a value in a word of its own begins with no hyphen
+-- the options that the words give, where an option may wait for
+-- its value; a value in a word of its own begins with no hyphen
 abbrev pub given_from : Option (List ℕ) → List (List ℕ) → Option (List Given)
 given_from None [] = Some []
 given_from (Some name) [] = None

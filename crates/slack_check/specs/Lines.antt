@@ -16,8 +16,8 @@ why_text K.Names = codes "Names"
 why_text K.Span = codes "Span"
 why_text K.Far = codes "Far"
 
--- how many outputs were asked for; how many came before one that may come too late, its least stamp, its channel, and the limit that
--- may reach its cycle; or how many requests came before the run stopped, and why
+-- how many outputs were asked for; how many came before one that may come too late, its least stamp, its channel, and
+-- the limit that may reach its cycle; or how many requests came before the run stopped, and why
 abbrev pub slack_line : Verdict → List ℕ
 slack_line (Yes outs) = codes "slack yes " ++ decimal outs ++ codes "\n"
 slack_line (No number event limit) =

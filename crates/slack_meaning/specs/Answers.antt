@@ -1,12 +1,14 @@
 -- What a request does to the bounds.
-use Rattle.std.specs.Prelude.{ℕ, ◌+◌, ◌-◌, ◌^◌, max, nat_le, nat_lt, List, [], ◌∷◌, length, Bool, true, false, not, ◌&&◌, ◌||◌, if◌then◌else◌, Option, Some, None, bytes_eq, ℤ, pos, ⊤}
+use Rattle.std.specs.Prelude.{ℕ, ◌+◌, ◌-◌, ◌^◌, max, nat_le, nat_lt, List, [], ◌∷◌, length, Bool, true}
+use Rattle.std.specs.Prelude.{false, not, ◌&&◌, ◌||◌, if◌then◌else◌, Option, Some, None, bytes_eq, ℤ, pos, ⊤}
 use Rattle.rtio_types.specs.declared.event.Event.{Event}
 use Rattle.rtio_types.specs.Time.{reading, whole_cycles, cycle_of_stamp, counter_reaching}
 use Rattle.kern_syntax.specs.Tree.{Bytes}
 use Rattle.slack_meaning.specs.declared.verdict.OpenKind.TheVariants as K
 use Rattle.slack_meaning.specs.declared.verdict.Stopped.TheVariants as W
 use Rattle.slack_meaning.specs.Spans.{Span}
-use Rattle.slack_meaning.specs.Actions.{SpanEvent, SpanRecording, State, decided, Action, normal, early, give, leave_open, ◌>>◌}
+use Rattle.slack_meaning.specs.Actions.{SpanEvent, SpanRecording, State, decided}
+use Rattle.slack_meaning.specs.Actions.{Action, normal, early, give, leave_open, ◌>>◌}
 
 -- a request is answered, and the limit rises by its cost
 abbrev pub counted : State → ℕ → State

@@ -1,5 +1,6 @@
 -- The values of expressions in a run without a core.
-use Rattle.std.specs.Prelude.{List, [], ◌∷◌, length, ℤ, pos, negsuc, Bool, true, false, not, ◌&&◌, if◌then◌else◌, slice_get, slice_set, unsigned_abs, Option, Some, None, option_map, bytes_eq, ⊤}
+use Rattle.std.specs.Prelude.{List, [], ◌∷◌, length, ℤ, pos, negsuc, Bool, true, false, not, ◌&&◌, if◌then◌else◌}
+use Rattle.std.specs.Prelude.{slice_get, slice_set, unsigned_abs, Option, Some, None, option_map, bytes_eq, ⊤}
 use Rattle.std.specs.List.{list_all}
 use Rattle.std.specs.Int.{w32, int_wrap}
 use Rattle.rtio_types.specs.declared.outcome.Exc.{Exc}
@@ -7,7 +8,9 @@ use Rattle.rtio_types.specs.declared.outcome.Exc.TheVariants.{IndexError, ZeroDi
 use Rattle.rtio_types.specs.Integers.{number_of, is_true}
 use Rattle.kern_syntax.specs.declared.expression.BinaryOperator.{BinaryOperator}
 use Rattle.kern_syntax.specs.declared.expression.BinaryOperator.TheVariants as O
-use Rattle.kern_syntax.specs.Tree.{Bytes, Expression, integer, true_literal, false_literal, variable, element, group, unary, binary, compare, negation, conjunction, disjunction, call, method, Arguments, no_more, value_then, text_then}
+use Rattle.kern_syntax.specs.Tree.{Bytes, Expression, integer, true_literal, false_literal, variable}
+use Rattle.kern_syntax.specs.Tree.{element, group, unary, binary, compare, negation, conjunction}
+use Rattle.kern_syntax.specs.Tree.{disjunction, call, method, Arguments, no_more, value_then, text_then}
 use Rattle.kern_calls.specs.declared.types.ValueType.{ValueType}
 use Rattle.kern_calls.specs.declared.types.ValueType.TheVariants as T
 use Rattle.kern_calls.specs.declared.calls.Builtin.{Builtin}
@@ -19,7 +22,8 @@ use Rattle.timeline_sem.specs.Numbers.{exact_result, compares, unary_result}
 use Rattle.timeline_sem.specs.Expressions.{array_in, text_in}
 use Rattle.slack_meaning.specs.declared.verdict.OpenKind.TheVariants as K
 use Rattle.slack_meaning.specs.Spans.{Span, exactly, is_number, span_sum, span_less}
-use Rattle.slack_meaning.specs.Actions.{Held, number, list, Action, normal, raised, give, stop, leave_open, take_unit, cursor_now, set_cursor, as_number, within_near, ◌>>=◌, ◌>>◌}
+use Rattle.slack_meaning.specs.Actions.{Held, number, list, Action, normal, raised, give, stop, leave_open}
+use Rattle.slack_meaning.specs.Actions.{take_unit, cursor_now, set_cursor, as_number, within_near, ◌>>=◌, ◌>>◌}
 use Rattle.slack_meaning.specs.Answers.{answered}
 use Rattle.slack_meaning.specs.Timeline.{delay, perform, no_value, first_of_list}
 

@@ -10,7 +10,8 @@ use Rattle.slack_meaning.specs.declared.verdict.Verdict.{Verdict}
 use Rattle.slack_meaning.specs.declared.verdict.Verdict.TheVariants as V
 use Rattle.slack_meaning.specs.declared.verdict.Stopped.TheVariants as W
 use Rattle.slack_meaning.specs.Spans.{Span, exactly}
-use Rattle.slack_meaning.specs.Actions.{Held, number, list, State, Stopped, return, raised, decided, Completion, normal, early, Action, give, stop, take_unit, ◌>>◌}
+use Rattle.slack_meaning.specs.Actions.{Held, number, list, State, Stopped, return, raised, decided}
+use Rattle.slack_meaning.specs.Actions.{Completion, normal, early, Action, give, stop, take_unit, ◌>>◌}
 use Rattle.slack_meaning.specs.Expressions.{Callee}
 use Rattle.slack_meaning.specs.Statements.{block}
 

@@ -1,17 +1,24 @@
 -- What statements and blocks do in a run without a core.
-use Rattle.std.specs.Prelude.{ℕ, zero, suc, List, [], ◌∷◌, replicate, ℤ, pos, ◌+ℤ◌, Bool, true, false, if◌then◌else◌, Option, Some, None, bytes_eq, unwrap_or, ⊤}
+use Rattle.std.specs.Prelude.{ℕ, zero, suc, List, [], ◌∷◌, replicate, ℤ, pos, ◌+ℤ◌, Bool, true}
+use Rattle.std.specs.Prelude.{false, if◌then◌else◌, Option, Some, None, bytes_eq, unwrap_or, ⊤}
 use Rattle.std.specs.Int.{int_gap}
 use Rattle.rtio_types.specs.declared.outcome.Exc.{Exc}
 use Rattle.rtio_types.specs.Integers.{is_true}
-use Rattle.kern_syntax.specs.Tree.{Bytes, Expression, variable, Statement, pass, evaluate, assign, assign_element, augment, augment_element, assign_repeated, assign_list, if_then, while_do, for_range, parallel, sequential, record_as, try_do, Block, done, line_then, Otherwise, no_else, else_do, elif_then, Handlers, no_handler, except_then}
+use Rattle.kern_syntax.specs.Tree.{Bytes, Expression, variable, Statement, pass, evaluate, assign, assign_element}
+use Rattle.kern_syntax.specs.Tree.{augment, augment_element, assign_repeated, assign_list, if_then, while_do}
+use Rattle.kern_syntax.specs.Tree.{for_range, parallel, sequential, record_as, try_do, Block, done, line_then}
+use Rattle.kern_syntax.specs.Tree.{Otherwise, no_else, else_do, elif_then, Handlers, no_handler, except_then}
 use Rattle.kern_syntax.specs.Tree as T
 use Rattle.kern_calls.specs.declared.types.ValueType.TheVariants.{Int64}
 use Rattle.kern_calls.specs.Types.{Scope, type_of}
 use Rattle.timeline_sem.specs.Statements.{name_of_exception, operator_of}
 use Rattle.slack_meaning.specs.Spans.{Span, exactly, span_max}
-use Rattle.slack_meaning.specs.Actions.{SpanRecording, number, list, State, break, continue, return, raised, budget, Completion, normal, early, Action, give, skip, stop, take_unit, cursor_now, set_cursor, as_number, within_reach, ◌>>=◌, ◌>>◌}
+use Rattle.slack_meaning.specs.Actions.{SpanRecording, number, list, State, break, continue, return, raised}
+use Rattle.slack_meaning.specs.Actions.{budget, Completion, normal, early, Action, give, skip, stop, take_unit}
+use Rattle.slack_meaning.specs.Actions.{cursor_now, set_cursor, as_number, within_reach, ◌>>=◌, ◌>>◌}
 use Rattle.slack_meaning.specs.Answers.{save}
-use Rattle.slack_meaning.specs.Expressions.{Callee, expression, read, write, read_element, write_element, operate, span_in}
+use Rattle.slack_meaning.specs.Expressions.{Callee, expression, read, write, read_element}
+use Rattle.slack_meaning.specs.Expressions.{write_element, operate, span_in}
 
 -- does the part where the test says so
 abbrev pub when : Bool → Action ⊤ → Action ⊤

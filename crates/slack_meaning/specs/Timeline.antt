@@ -8,7 +8,8 @@ use Rattle.kern_calls.specs.declared.calls.Operation.TheVariants as P
 use Rattle.slack_meaning.specs.declared.verdict.OpenKind.{OpenKind}
 use Rattle.slack_meaning.specs.declared.verdict.OpenKind.TheVariants as K
 use Rattle.slack_meaning.specs.Spans.{Span, exactly, is_number, span_sum, span_max}
-use Rattle.slack_meaning.specs.Actions.{SpanEvent, Action, normal, give, skip, leave_open, take_unit, cursor_now, set_cursor, as_number, within_near, within_reach, ◌>>=◌, ◌>>◌}
+use Rattle.slack_meaning.specs.Actions.{SpanEvent, Action, normal, give, skip, leave_open, take_unit, cursor_now}
+use Rattle.slack_meaning.specs.Actions.{set_cursor, as_number, within_near, within_reach, ◌>>=◌, ◌>>◌}
 use Rattle.slack_meaning.specs.Answers.{submit, await, read_lead, erase, fetch}
 
 -- a sum of moments, by whether both are numbers

@@ -6,7 +6,8 @@ use Rattle.kern_calls.specs.declared.calls.Operation.TheVariants as P
 use Rattle.slack_meaning.specs.declared.span.Span.{Span}
 use Rattle.slack_meaning.specs.Actions.{Action, skip, take_unit, ◌>>◌}
 use Rattle.slack_meaning.specs.Answers.{erase}
-use Rattle.slack_meaning.specs.Timeline.{first_of_list, second_of_list, output, pulse_for, write_raw, move_to_real_time, reset_core, wait_until, play, play_handle}
+use Rattle.slack_meaning.specs.Timeline.{first_of_list, second_of_list, output, pulse_for, write_raw}
+use Rattle.slack_meaning.specs.Timeline.{move_to_real_time, reset_core, wait_until, play, play_handle}
 
 -- a recording is erased
 abbrev pub forget : Bytes → Action ⊤

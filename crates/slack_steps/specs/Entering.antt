@@ -11,8 +11,8 @@ abbrev pub first_value : ValueType → Option Span → Held
 first_value t None = initial_value t
 first_value t (Some arg) = number arg
 
--- a call, where so many further functions may be active: it takes a unit, and then raises, or gives how many may be active
--- beside the one that it enters
+-- a call, where so many further functions may be active: it takes a unit, and
+-- then raises, or gives how many may be active beside the one that it enters
 abbrev pub enter_call : (room : ℕ) → Action ℕ
 enter_call zero = take_unit >> stop (raised StackOverflow)
 enter_call (suc room) = take_unit >> give room

@@ -12,8 +12,8 @@ use Rattle.slack_meaning.specs.Expressions.{operate, write, write_element}
 use Rattle.slack_state.specs.declared.early.Early.{Early}
 use Rattle.slack_state.specs.Does.{EndsAs}
 
--- where the answer is true the next part goes on from what is left, where it is false all is done; or the part ends early,
--- unless memory ran out
+-- where the answer is true the next part goes on from what is left, where
+-- it is false all is done; or the part ends early, unless memory ran out
 abbrev pub GoesOn : Result Bool Early → (left : State) → (does : Completion ⊤) → (next : Action ⊤) → Type 0
 GoesOn (Ok true) left does next = does ≡ next left
 GoesOn (Ok false) left does next = does ≡ normal tt left

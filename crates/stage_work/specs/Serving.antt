@@ -22,8 +22,8 @@ use Rattle.lab_ties.specs.Ties.{AreTied}
 use Rattle.stage_work.specs.Jobs.{HasTaken, in_flight}
 use Rattle.stage_work.specs.Stepping.{ChangesAt, IsUnreported}
 
--- The scheduler has this session, and these jobs in flight. It wasn't halted; all entries are of chair 0; and each source was
--- judged rightly
+-- The scheduler has this session, and these jobs in flight. It wasn't
+-- halted; all entries are of chair 0; and each source was judged rightly
 pub record IsServedSched (session : Session) (flying : List Flight) (sched : SchedValue) : Type 0 where
   pub session_is : sched.session ≡ session
   pub flying_is : (sched_state sched).flying ≡ flying
@@ -31,9 +31,9 @@ pub record IsServedSched (session : Session) (flying : List Flight) (sched : Sch
   pub alone : All (λ (entry : SchedEntry). entry.chair ≡ 0) sched.history
   pub judged : All (λ (entry : SchedEntry). IsJudged session sched.history entry.act) sched.history
 
--- The core of a pipeline has the pipeline's settings. No session is open and no request waits; it hasn't ticked since its last
--- entry, and no cycle passed before a start nor before an end, unless that is one at the horizon. All entries are of chair 0;
--- and its sessions and the scheduler's reports of the pipeline's kernel steps belong together
+-- The core of a pipeline has the pipeline's settings. No session is open and no request waits; it hasn't ticked since
+-- its last entry, and no cycle passed before a start nor before an end, unless that is one at the horizon. All entries
+-- are of chair 0; and its sessions and the scheduler's reports of the pipeline's kernel steps belong together
 pub record IsServedCore (session : Session) (sched : List SchedEntry) (pipeline : ℕ) (core : CoreState) : Type 0 where
   pub config : config_at session pipeline ≡ Some core.config
   pub closed : open_session core.history ≡ None

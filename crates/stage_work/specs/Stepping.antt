@@ -19,8 +19,8 @@ use Rattle.stage_work.specs.declared.stepping.StepAt.{StepAt}
 abbrev pub step_job : StepAt → HostStep → Kit → Job Kit
 step_job at step kit = job.Step at.rid at.pos at.pipeline step kit
 
--- a kernel's step has run as a session of chair 0 with these units, and has the result of that; any other step has left the core
--- as it was, and has no result
+-- a kernel's step has run as a session of chair 0 with these units, and has the
+-- result of that; any other step has left the core as it was, and has no result
 abbrev pub HasDone : (units : ℕ) → Kit → StepAt → HostStep → CoreState → CoreState → Option KernelResult → Type 0
 HasDone units kit at (Kernel name args) old new (Some result) =
     (function : ℕ) × HasFunction (program_in kit) name args function

@@ -1,5 +1,6 @@
 -- The meaning of expressions.
-use Rattle.std.specs.Prelude.{List, [], ◌∷◌, length, ℤ, pos, negsuc, Bool, true, false, not, if◌then◌else◌, slice_get, slice_set, unsigned_abs, Option, Some, None, option_map, bytes_eq, ⊤}
+use Rattle.std.specs.Prelude.{List, [], ◌∷◌, length, ℤ, pos, negsuc, Bool, true, false, not, if◌then◌else◌}
+use Rattle.std.specs.Prelude.{slice_get, slice_set, unsigned_abs, Option, Some, None, option_map, bytes_eq, ⊤}
 use Rattle.std.specs.Int.{w32, int_wrap}
 use Rattle.rtio_types.specs.declared.outcome.Exc.{Exc}
 use Rattle.rtio_types.specs.declared.outcome.Exc.TheVariants.{IndexError, ZeroDivisionError}
@@ -7,7 +8,9 @@ use Rattle.rtio_types.specs.declared.request.Request.TheVariants as Q
 use Rattle.rtio_types.specs.declared.request.Value.{Value}
 use Rattle.rtio_types.specs.declared.request.Value.TheVariants as W
 use Rattle.kern_syntax.specs.declared.expression.BinaryOperator.{BinaryOperator}
-use Rattle.kern_syntax.specs.Tree.{Bytes, Expression, integer, true_literal, false_literal, variable, element, group, unary, binary, compare, negation, conjunction, disjunction, call, method, Arguments, no_more, value_then, text_then}
+use Rattle.kern_syntax.specs.Tree.{Bytes, Expression, integer, true_literal, false_literal, variable}
+use Rattle.kern_syntax.specs.Tree.{element, group, unary, binary, compare, negation, conjunction}
+use Rattle.kern_syntax.specs.Tree.{disjunction, call, method, Arguments, no_more, value_then, text_then}
 use Rattle.kern_calls.specs.declared.types.ValueType.{ValueType}
 use Rattle.kern_calls.specs.declared.types.ValueType.TheVariants as V
 use Rattle.kern_calls.specs.declared.calls.Builtin.{Builtin}

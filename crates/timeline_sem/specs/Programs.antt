@@ -9,7 +9,8 @@ use Rattle.kern_syntax.specs.Tree.{Bytes, FunctionTree, ProgramTree}
 use Rattle.kern_calls.specs.declared.types.ValueType.{ValueType}
 use Rattle.kern_calls.specs.declared.types.ValueType.TheVariants as V
 use Rattle.kern_calls.specs.Types.{Names, function_named, names_of}
-use Rattle.timeline_sem.specs.Actions.{State, Reason, return, raised, budget, unanswered, Completion, normal, early, Action, give, stop, take_unit, ◌>>◌}
+use Rattle.timeline_sem.specs.Actions.{State, Reason, return, raised, budget, unanswered, Completion}
+use Rattle.timeline_sem.specs.Actions.{normal, early, Action, give, stop, take_unit, ◌>>◌}
 use Rattle.timeline_sem.specs.Expressions.{Callee}
 use Rattle.timeline_sem.specs.Statements.{block}
 use Rattle.timeline_sem.specs.declared.meant.MeantOutcome.{MeantOutcome}

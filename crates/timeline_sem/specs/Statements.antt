@@ -1,8 +1,10 @@
 -- The meaning of statements and blocks.
-use Rattle.std.specs.Prelude.{ℕ, zero, suc, List, [], ◌∷◌, replicate, ℤ, pos, ◌+ℤ◌, Bool, true, false, if◌then◌else◌, Option, Some, None, bytes_eq, unwrap_or, codes, ⊤}
+use Rattle.std.specs.Prelude.{ℕ, zero, suc, List, [], ◌∷◌, replicate, ℤ, pos, ◌+ℤ◌, Bool, true, false}
+use Rattle.std.specs.Prelude.{if◌then◌else◌, Option, Some, None, bytes_eq, unwrap_or, codes, ⊤}
 use Rattle.std.specs.Int.{int_max, int_gap}
 use Rattle.rtio_types.specs.declared.outcome.Exc.{Exc}
-use Rattle.rtio_types.specs.declared.outcome.Exc.TheVariants.{RTIOUnderflow, RTIOOverflow, DMAError, ZeroDivisionError, IndexError, StackOverflow}
+use Rattle.rtio_types.specs.declared.outcome.Exc.TheVariants.{RTIOUnderflow, RTIOOverflow, DMAError}
+use Rattle.rtio_types.specs.declared.outcome.Exc.TheVariants.{ZeroDivisionError, IndexError, StackOverflow}
 use Rattle.rtio_types.specs.declared.request.Request.{Request}
 use Rattle.rtio_types.specs.declared.request.Request.TheVariants as Q
 use Rattle.rtio_types.specs.declared.request.Value.TheVariants as W
@@ -10,13 +12,19 @@ use Rattle.kern_syntax.specs.declared.statement.Augment.{Augment}
 use Rattle.kern_syntax.specs.declared.statement.Augment.TheVariants as A
 use Rattle.kern_syntax.specs.declared.expression.BinaryOperator.{BinaryOperator}
 use Rattle.kern_syntax.specs.declared.expression.BinaryOperator.TheVariants as O
-use Rattle.kern_syntax.specs.Tree.{Bytes, Expression, variable, Statement, pass, evaluate, assign, assign_element, augment, augment_element, assign_repeated, assign_list, if_then, while_do, for_range, parallel, sequential, record_as, try_do, Block, done, line_then, Otherwise, no_else, else_do, elif_then, Handlers, no_handler, except_then}
+use Rattle.kern_syntax.specs.Tree.{Bytes, Expression, variable, Statement, pass, evaluate, assign, assign_element}
+use Rattle.kern_syntax.specs.Tree.{augment, augment_element, assign_repeated, assign_list, if_then, while_do}
+use Rattle.kern_syntax.specs.Tree.{for_range, parallel, sequential, record_as, try_do, Block, done, line_then}
+use Rattle.kern_syntax.specs.Tree.{Otherwise, no_else, else_do, elif_then, Handlers, no_handler, except_then}
 use Rattle.kern_syntax.specs.Tree as T
 use Rattle.kern_calls.specs.declared.types.ValueType.TheVariants.{Int64}
 use Rattle.kern_calls.specs.Types.{Scope, type_of}
-use Rattle.timeline_sem.specs.Actions.{State, break, continue, return, raised, budget, Completion, normal, early, Action, go_on, give, skip, stop, take_unit, ask, cursor_now, set_cursor, ◌>>=◌, ◌>>◌}
+use Rattle.timeline_sem.specs.Actions.{State, break, continue, return, raised, budget}
+use Rattle.timeline_sem.specs.Actions.{Completion, normal, early, Action, go_on, give, skip}
+use Rattle.timeline_sem.specs.Actions.{stop, take_unit, ask, cursor_now, set_cursor, ◌>>=◌, ◌>>◌}
 use Rattle.rtio_types.specs.Integers.{is_true}
-use Rattle.timeline_sem.specs.Expressions.{Callee, expression, read, write, read_element, write_element, operate, number_in_value}
+use Rattle.timeline_sem.specs.Expressions.{Callee, expression, read, write, read_element}
+use Rattle.timeline_sem.specs.Expressions.{write_element, operate, number_in_value}
 
 -- the name of an exception
 abbrev pub name_of_exception : Exc → Bytes

@@ -9,7 +9,8 @@ use Rattle.rtio_types.specs.declared.request.Request.{Request}
 use Rattle.kern_syntax.specs.Tree.{Bytes}
 use Rattle.kern_calls.specs.declared.calls.Operation.{Operation}
 use Rattle.kern_calls.specs.declared.calls.Operation.TheVariants as P
-use Rattle.timeline_sem.specs.Actions.{Action, normal, budget, give, skip, stop, take_unit, request, cursor_now, set_cursor, ◌>>=◌, ◌>>◌}
+use Rattle.timeline_sem.specs.Actions.{Action, normal, budget, give, skip, stop, take_unit}
+use Rattle.timeline_sem.specs.Actions.{request, cursor_now, set_cursor, ◌>>=◌, ◌>>◌}
 use Rattle.rtio_types.specs.Integers.{low_bits}
 use Rattle.rtio_types.specs.Replies.{number_in}
 use Rattle.rtio_types.specs.Time.{later, shifted}

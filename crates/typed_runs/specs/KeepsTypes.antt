@@ -27,8 +27,8 @@ module _ (program : ProgramTree) where
     pub begins : (k : ℕ) (f : FunctionTree) → slice_get program k ≡ Some f
         → (args : List ℤ) → AreArgumentsOf f.parameters args
         → HaveValues (names_of program f) (initial_values (names_of program f) args)
-    -- from such values each expression gives a number of its type and leaves such values, and it never ends by a `break`, a
-    -- `continue` or a `return`
+    -- from such values each expression gives a number of its type and leaves
+    -- such values, and it never ends by a `break`, a `continue` or a `return`
     pub expressions : (k : ℕ) (f : FunctionTree) → slice_get program k ≡ Some f
         → (here : Standing) (names : Names) (e : Expression) (t : ValueType)
         → HasType (functions_at program k) here names e (Typed t) → IsScalar t → TellsNames names (scope_in f)
@@ -38,15 +38,15 @@ module _ (program : ProgramTree) where
         (in_an_expression here)
         (IsNumberOf t)
         (expression (scope_in f) (function_call program room) e s)
-    -- from such values each block ends with such values, by a `break` or a `continue` only in a loop, and by a `return` only where
-    -- it may leave the function, with what the function gives
+    -- from such values each block ends with such values, by a `break` or a `continue` only in a loop, and by a `return`
+    -- only where it may leave the function, with what the function gives
     pub blocks : (k : ℕ) (f : FunctionTree) → slice_get program k ≡ Some f
         → (here : Standing) (names : Names) (b : Block) (after : Names)
         → IsTypedBlock (functions_at program k) here names b after → TellsNames after (scope_in f)
         → (room : ℕ) (s : State) → HaveValues (names_of program f) s.values
         → EndsTyped (names_of program f) here (λ (a : ⊤). Unit {0}) (block (scope_in f) (function_call program room) b s)
-    -- a call with arguments of the parameters' types ends with the caller's values, normally with what the function gives, and
-    -- never by a `break`, a `continue` or a `return`
+    -- a call with arguments of the parameters' types ends with the caller's values, normally
+    -- with what the function gives, and never by a `break`, a `continue` or a `return`
     pub calls : (k : ℕ) (f : FunctionTree) → slice_get program k ≡ Some f
         → (args : List ℤ) → AreArgumentsOf f.parameters args
         → (room : ℕ) (s : State) → EndsCall f.result s.values (function_call program room f.name args s)

@@ -9,8 +9,8 @@ use Rattle.kern_calls.specs.declared.types.ValueType.{ValueType}
 use Rattle.kern_calls.specs.declared.types.ValueType.TheVariants as V
 use Rattle.kern_calls.specs.Types.{Names, declared_type}
 
--- a number of a type: an int32 has 32 bits, and a truth value is 0 or 1. An int64 isn't bounded here: it may be any number, as
--- replies and the cursor of the meaning may
+-- a number of a type: an int32 has 32 bits, and a truth value is 0 or 1. An int64 isn't
+-- bounded here: it may be any number, as replies and the cursor of the meaning may
 abbrev pub IsNumberOf : ValueType → ℤ → Type 0
 IsNumberOf V.Int32 n = FitsSigned w32 n
 IsNumberOf V.Int64 n = Unit {0}
