@@ -1,0 +1,4 @@
+pub mod KernelLines
+pub mod Laws
+pub mod Parts
+pub mod Ready

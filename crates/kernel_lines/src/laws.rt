@@ -1,0 +1,16 @@
+// What holds of the lines of every kernel.
+
+ghost use Rattle.kern_syntax.specs.Tree.{ProgramTree};
+ghost use Rattle.code_forms.specs.Setting.{Setting};
+ghost use Rattle.kernel_lines.specs.Laws.{HaveTheirSize, InstructionsHaveLines};
+
+use code_forms::code_has_its_size;
+
+/// Each statement and block has as many lines as its code has instructions, and so has a whole program. So the instruction
+/// at a place has the line at that place.
+pub fn each_instruction_has_a_line()
+    ensures parts { (setting : Setting) → HaveTheirSize setting }
+    ensures programs { (program : ProgramTree) → InstructionsHaveLines program }
+{
+    code_has_its_size();
+}

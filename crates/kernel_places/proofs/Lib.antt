@@ -1,0 +1,10 @@
+pub mod Acts
+pub mod Going
+pub mod Leaving
+pub mod OfSessions
+pub mod Replaying
+pub mod SessionLaws
+pub mod Standing
+pub mod Stepping
+pub mod Tail
+pub mod Took

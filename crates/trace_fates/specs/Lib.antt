@@ -1,0 +1,4 @@
+pub mod Asked
+pub mod Fates
+pub mod Passes
+pub mod Laws
