@@ -8,7 +8,10 @@
 //!     core LANES DEPTH COST HORIZON     a new core
 //!     code LINES                        accepted code of one function; the lines are `out STAMP` (of a 1 on channel 0), `wait STAMP`
 //!                                       and `return`, between commas
-//!     open RID                          starts a session of that run
+//!     open RID                          starts a session of that run: its cursor, or which run's is open
+//!     wait STAMP                        asks in it for a wait up to that moment: the reply, or before which cycle there is none
+//!     tick                              lets the counter go on by a cycle: whether it went
+//!     end CURSOR                        ends the session with that cursor, at the horizon
 //!     run SCHEDULE                      a session of ten units: how it ended, and at which counters the entries of the core's
 //!                                       history stand
 //!     drain                             lets the core drain: the counter then

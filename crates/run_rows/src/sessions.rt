@@ -3,8 +3,8 @@
 use crate::code::code_of;
 use core_image::Verified;
 use core_session::{Ran, SessionEnd, drain_core, run_code};
-use rtio_core::{Act, Config, Core, Entry, NamedList, StartOf, config_ok};
-use rtio_types::{EdgeList, IntList};
+use rtio_core::{Act, Ask, Config, Core, Entry, NamedList, StartEnd, StartOf, config_ok};
+use rtio_types::{EdgeList, IntList, Outcome, Request};
 use run_schedule::{Schedule, Step};
 use std::alloc::{AllocError, Global};
 use table_rows::{Bench, push_answer};
@@ -56,10 +56,10 @@ impl Sessions {
             return String::from_str(alloc, "no core");
         };
         match verb {
-            "open" => {
-                let started = core.start(alloc, 3, main_of(alloc, rest.parse().unwrap_or(0)));
-                accepted(alloc, started.is_ok())
-            }
+            "open" => open(alloc, core, rest.parse().unwrap_or(0)),
+            "wait" => wait(alloc, core, rest.parse().unwrap_or(0)),
+            "tick" => format!(in alloc; "{:?}", core.tick()),
+            "end" => end(alloc, core, rest.parse().unwrap_or(0)),
             "drain" => {
                 if core.session().is_none() {
                     drain_core(core);
@@ -72,6 +72,37 @@ impl Sessions {
             },
         }
     }
+}
+
+// Starts a session of a run, and gives its cursor.
+fn open(alloc: Global, core: &mut Core, rid: u64) -> Result<String, AllocError> {
+    match core.start(alloc, 3, main_of(alloc, rid)) {
+        Ok(cursor) => format!(in alloc; "{cursor}"),
+        Err(StartEnd::Busy { rid }) => format!(in alloc; "busy with {rid}"),
+        Err(StartEnd::Memory) => Err(AllocError),
+    }
+}
+
+// Asks in the session for a wait up to a moment.
+fn wait(alloc: Global, core: &mut Core, until: i64) -> Result<String, AllocError> {
+    let Some((3, _)) = core.session() else {
+        return String::from_str(alloc, "no session");
+    };
+    match core.ask(alloc, 3, Request::Wait { until }) {
+        Ok(Ask::Reply(reply)) => format!(in alloc; "{reply:?}"),
+        Ok(Ask::NotYet { until, .. }) => format!(in alloc; "not before {until}"),
+        Ok(Ask::OtherPending { .. }) => String::from_str(alloc, "another waits"),
+        Err(_) => Err(AllocError),
+    }
+}
+
+// Ends the session at the horizon with a cursor.
+fn end(alloc: Global, core: &mut Core, cursor: i64) -> Result<String, AllocError> {
+    let Some((3, _)) = core.session() else {
+        return String::from_str(alloc, "no session");
+    };
+    core.end(alloc, 3, Outcome::Horizon, cursor)?;
+    String::from_str(alloc, "ok")
 }
 
 fn accepted(alloc: Global, is_so: bool) -> Result<String, AllocError> {

@@ -8,7 +8,7 @@
 //! There are two pipelines. The entries are those of the scheduler's history and the clock is the lab's, both after the call. The
 //! calls are those of one chair: `next`; `prepared RID`, `failed RID` (its source is refused), `analyzed RID`; `step RID POS`, of a
 //! kernel that returned or of another step; `raised RID POS`, `budget RID POS`, `horizon RID POS`, of a kernel that ended so; `by_1`
-//! stands before a report whose kit is of source 1 (all runs are of source 0); `stop CHAIR`; and `data NAME`, which only reads. A
+//! stands before a report whose kit is of source 1 (the others' are of source 0); `stop CHAIR`; and `data NAME`, which only reads. A
 //! kernel sets the dataset `k` to 7, whatever its end.
 #![tactic(auto)]
 

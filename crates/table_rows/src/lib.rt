@@ -10,9 +10,11 @@
 #![tactic(auto)]
 
 mod answers;
+mod rows;
 mod texts;
 mod walking;
 
 pub use answers::{push_answer, push_output};
+pub use rows::{Tally, is_answer, is_row, push_line};
 pub use texts::push_text;
 pub use walking::{Bench, walk_table};
