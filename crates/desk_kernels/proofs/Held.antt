@@ -26,6 +26,10 @@ use Rattle.desk_kernels.specs.Chairs.{CoreChair, IsAt, core_entries}
 use Rattle.desk_kernels.specs.Holdings.{EndsOrWaits, GoesOn, Holds, IsReady, IsTurnOrEnd, Opens, OpensCore}
 use Rattle.desk_kernels.proofs.Seen.{entries-booked, grew-none, grew-one}
 
+pub on-err : {X E : Type 0} (r : Result X E) (P : Type 0) → P → OnErr r P
+on-err (Ok x) P p = tt
+on-err (Err e) P p = p
+
 -- ---- what was added to the core that is held
 
 pub opens-grew : {E : Type 0} (chair : ℕ) (of : StartOf) (old new : CoreState) (r : Result Opening E) → IfOk r (λ o. OpensCore old chair of o new) → OnErr r (new ≡ old) → Grew chair (booked_acts old.history) (booked_acts new.history)
@@ -96,7 +100,7 @@ module _ (desk : Opened Config) (old mid new : CoreChair) (lost : List ℕ) (val
 
 module _ (desk : Opened Config) (old new : CoreChair) (was now : CoreState) (holds : Holds desk old was now new) where
   -- where nothing was added the chair put nothing
-  own-none : now.history ≡ was.history → new.own ≡ old.own
+  pub own-none : now.history ≡ was.history → new.own ≡ old.own
   own-none same =
       sym holds.goes.ready.knows
       ∙ (λ i. acts_of (holds.goes.number i) (holds.seen i))

@@ -5,6 +5,7 @@ use Rattle.rtio_types.specs.declared.outcome.Outcome.{Outcome}
 use Rattle.rtio_types.specs.declared.outcome.Outcome.TheVariants as outcome
 use Rattle.rtio_types.specs.declared.request.Request.{Request}
 use Rattle.rtio_types.specs.declared.request.Reply.{Reply}
+use Rattle.rtio_core.specs.declared.data.Act.{Act}
 use Rattle.rtio_core.specs.declared.data.Act.TheVariants.{Asked, End, Start}
 use Rattle.rtio_core.specs.declared.data.Config.{Config}
 use Rattle.rtio_core.specs.declared.data.Entry.{Entry}
@@ -25,6 +26,11 @@ use Rattle.desk_kernels.specs.Chairs.{CoreChair, core_entries}
 use Rattle.desk_kernels.specs.Holdings.{EndsOrWaits, Holds, IsGivenUp, IsReady, IsTurnAt, IsTurnOrEnd, MayPutEnd, core_as_seen}
 use Rattle.desk_kernels.proofs.Seen.{booked-entries, entries-booked}
 
+-- nothing new
+pub as-seen-same : (config : Config) (old new : CoreChair) → new.seen ≡ old.seen → core_as_seen config new ≡ core_as_seen config old
+as-seen-same config old new same =
+    ap (λ (seen : List (ℕ × Act)). record { config = config; history = core_entries seen; counter = last_at (core_entries seen); waiting = None }) same
+
 -- one entry more
 pub as-seen-more : (config : Config) (history : List Entry) (entry : Entry) (new : CoreChair) → core_entries new.seen ≡ history ++ entry ∷ []
     → core_as_seen config new ≡ record { config = config; history = history ++ entry ∷ []; counter = act_at entry.act; waiting = None }
@@ -41,7 +47,7 @@ module _ (desk : Opened Config) (old new : CoreChair) (was now : CoreState) (hol
     entries-more : (entry : Entry) → now.history ≡ was.history ++ entry ∷ [] → core_entries new.seen ≡ core_entries old.seen ++ entry ∷ []
     entries-more entry is = entries-now ∙ is ∙ ap (λ (h : List Entry). h ++ entry ∷ []) same
 
-    seen-none : now.history ≡ was.history → new.seen ≡ old.seen
+    pub seen-none : now.history ≡ was.history → new.seen ≡ old.seen
     seen-none is = holds.seen ∙ ap booked_acts (is ∙ same) ∙ booked-entries old.seen
 
     replied-at : (request : Request) (reply : Reply) → IsAnswered was old.number request reply now → IsAnswered (core_as_seen desk.fixed old) old.number request reply (core_as_seen desk.fixed new)

@@ -1,5 +1,5 @@
 -- Where a session of a chair stands at a desk.
-use Rattle.std.specs.Prelude.{◌≡◌, ℕ, ℤ, List, [], ◌∷◌, ◌++◌, Option, Some, None}
+use Rattle.std.specs.Prelude.{◌≡◌, ◌⊎◌, ℕ, ℤ, List, [], ◌∷◌, ◌++◌, Option, Some, None}
 use mathlib.Core.List.{IsPrefix}
 use Rattle.rtio_types.specs.declared.outcome.Outcome.{Outcome}
 use Rattle.rtio_core.specs.declared.data.Act.TheVariants.{End}
@@ -17,11 +17,13 @@ use Rattle.core_cpu.specs.Moments.{Moment}
 use Rattle.core_session.specs.Scripts.{HaveNumbers}
 use Rattle.core_session.specs.Sessions.{Answered, EndsAs, account_of, entry_of, replies_of, requests_of}
 use Rattle.core_session.specs.Standing.{Session}
+use Rattle.lab_kernels.specs.CutShort.{CutsCode}
 use Rattle.lab_kernels.specs.Kernels.{AreAskedAtTop, KernelRun, result_of, session_entries, sets_of}
 use Rattle.lab_kernels.specs.Runs.{RunsCode}
 use Rattle.lab_kernels.specs.Standing.{IsUnderWay, entries_so_far, history_of}
 use Rattle.desk_kernels.specs.Chairs.{CoreChair, core_entries}
 use Rattle.desk_kernels.specs.Holdings.{core_as_seen}
+use Rattle.desk_kernels.specs.Kernels.{LeavesCore}
 
 -- The session has ended so, and with its end all that was seen ends: its requests,
 -- outcome and cursor are those of the run under its replies, of which the processor tells
@@ -62,3 +64,8 @@ pub record RunsCodeAt (code : Code) (units : ℕ) (of : StartOf) (config : Confi
   pub at_top : AreAskedAtTop config before (session_entries old.number before k)
   pub runs : RunsCode code units old.number config before k
   pub told : result ≡ result_of k
+
+-- without memory the chair has put nothing, or its session of the code was cut short
+abbrev pub LeavesCodeAt : Code → (units : ℕ) → StartOf → Config → CoreChair → CoreChair → Type 0
+LeavesCodeAt code units of config old new =
+    (new.own ≡ old.own) ⊎ LeavesCore (CutsCode code units old.number of) config old new

@@ -16,7 +16,7 @@ use std::sync::Wait;
 
 /// Asks a request of the chair's open session until it is decided; between two holdings the desk is free. The core ticks on in each,
 /// so nothing is gained by waiting between them. None where it isn't decided at the horizon, and then the session has ended there,
-/// with this cursor (mu).
+/// with this cursor (mu). The only error is want of memory, and then the chair has put nothing.
 pub(crate) fn ask_until_decided<R: Wait>(
     rt: &R,
     alloc: Global,
@@ -30,6 +30,7 @@ pub(crate) fn ask_until_decided<R: Wait>(
     requires formed { IsTrue (is_well_formed request) }
     ensures goes { GoesOn desk.now chair.old chair.new }
     ensures decided { IfOk result (λ reply. IsDecidedAt desk.now.fixed chair.old request cursor reply chair.new) }
+    ensures err { OnErr result (chair.new.seen ≡ chair.old.seen) }
 {
     let mut asked = request;
     for _ in rt.forever() {
@@ -57,6 +58,7 @@ fn ask_once<R: Wait>(
     requires formed { IsTrue (is_well_formed request) }
     ensures goes { GoesOn desk.now chair.old chair.new }
     ensures turn { IfOk result (λ turn. IsTurnAt desk.now.fixed chair.old request cursor turn chair.new) }
+    ensures err { OnErr result (chair.new.seen ≡ chair.old.seen) }
 {
     let who = chair.number();
     let mut held = desk.take(rt, chair);

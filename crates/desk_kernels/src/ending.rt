@@ -13,7 +13,8 @@ use std::alloc::{AllocError, Global};
 use std::sync::Wait;
 use std::thread;
 
-/// Tries until no request waits, and ends the chair's open session with this cursor (mu). That it ever ends is not promised.
+/// Tries until no request waits, and ends the chair's open session with this cursor (mu). That it ever ends is not promised. The only
+/// error is want of memory, and then the chair has put nothing.
 pub(crate) fn end<R: Wait>(
     rt: &R,
     alloc: Global,
@@ -26,6 +27,7 @@ pub(crate) fn end<R: Wait>(
     requires open { IsOpenFor chair.old.number (core_entries chair.old.seen) }
     ensures goes { GoesOn desk.now chair.old chair.new }
     ensures ended { IfOk result (λ _. HasPutEnd chair.old outcome cursor chair.new) }
+    ensures err { OnErr result (chair.new.seen ≡ chair.old.seen) }
 {
     for _ in rt.forever() {
         if try_end(rt, alloc, desk, chair, outcome, cursor)? {
@@ -49,6 +51,7 @@ fn try_end<R: Wait>(
     requires open { IsOpenFor chair.old.number (core_entries chair.old.seen) }
     ensures goes { GoesOn desk.now chair.old chair.new }
     ensures ended { IfOk result (λ done. MayPutEnd chair.old outcome cursor done chair.new) }
+    ensures err { OnErr result (chair.new.seen ≡ chair.old.seen) }
 {
     let who = chair.number();
     let mut held = desk.take(rt, chair);

@@ -1,11 +1,11 @@
 // A kernel step at a desk.
 
-ghost use Rattle.std.specs.Prelude.{IfOk};
+ghost use Rattle.std.specs.Prelude.{IfOk, OnErr};
 ghost use mathlib.Core.List.{IsPrefix};
 ghost use Rattle.kern_syntax.specs.TreeOf.{tree_of};
 ghost use Rattle.lab_kernels.specs.Meant.{TakesArguments};
 ghost use Rattle.desk_kernels.specs.Chairs.{IsAt, IsSameChair, KnowsItsOwn};
-ghost use Rattle.desk_kernels.specs.Kernels.{RunsKernelAt};
+ghost use Rattle.desk_kernels.specs.Kernels.{LeavesKernelAt, RunsKernelAt};
 
 use crate::running::run_function_at;
 use desk::{Chair, Desk};
@@ -19,7 +19,7 @@ use std::sync::Wait;
 /// start the session, to let the core tick on and ask a request, and to end the session; between two holdings it is free. Where
 /// another session is open, or another request waits, the chair puts the core back and tries again. Where a request isn't decided at
 /// the horizon, the session ends in the same holding with the outcome Horizon. The kernel has the function, and the arguments fit it.
-/// The only error is want of memory; where the session was open then, it stays so.
+/// The only error is want of memory.
 pub fn run_kernel_at<R: Wait>(
     rt: &R,
     alloc: Global,
@@ -39,6 +39,9 @@ pub fn run_kernel_at<R: Wait>(
     // It has put one session of the kernel, whose requests, outcome and cursor are those of the kernel's meaning under its replies; each
     // request was asked at its top; and the result is that of the session.
     ensures kernel { IfOk result (λ result. RunsKernelAt (tree_of compiled.now.0) compiled.now.1 units of desk.now.fixed chair.old chair.new result) }
+    // Without memory it has put nothing, or just this session, which has no end and stays open. It has the first requests of the kernel's
+    // meaning with their replies, each asked at its top.
+    ensures left { OnErr result (LeavesKernelAt (tree_of compiled.now.0) units of desk.now.fixed chair.old chair.new) }
 {
     runs_with_fitting_replies_are_meant();
     run_function_at(rt, alloc, desk, chair, compiled.code(), of, units)

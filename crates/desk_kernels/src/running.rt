@@ -1,13 +1,13 @@
 // A whole session at a desk.
 
-ghost use Rattle.std.specs.Prelude.{◌≡◌, IfOk};
+ghost use Rattle.std.specs.Prelude.{◌≡◌, IfOk, OnErr};
 ghost use mathlib.Core.List.{IsPrefix};
 ghost use Rattle.core_cpu.specs.Standing.{HasEntry};
 ghost use Rattle.core_session.specs.Standing.{Session};
-ghost use Rattle.lab_kernels.specs.Standing.{Begins, HasBegun};
+ghost use Rattle.lab_kernels.specs.Standing.{Begins, HasBegun, HasLeft};
 ghost use Rattle.desk_kernels.specs.Chairs.{IsAt, IsSameChair, KnowsItsOwn};
 ghost use Rattle.desk_kernels.specs.Holdings.{GoesOn, IsReady, core_as_seen};
-ghost use Rattle.desk_kernels.specs.Sessions.{HasPlayedAt, RunsCodeAt};
+ghost use Rattle.desk_kernels.specs.Sessions.{HasPlayedAt, LeavesCodeAt, RunsCodeAt};
 
 use crate::starting::start;
 use crate::steps::go_on;
@@ -36,6 +36,7 @@ pub(crate) fn run_function_at<R: Wait>(
     ensures later { IsPrefix chair.old.seen chair.new.seen }
     ensures knows { KnowsItsOwn chair.old → KnowsItsOwn chair.new }
     ensures ran { IfOk result (λ result. RunsCodeAt code.now units of desk.now.fixed chair.old chair.new result) }
+    ensures left { OnErr result (LeavesCodeAt code.now units of desk.now.fixed chair.old chair.new) }
 {
     let function = of.function;
     let args = of.args.copy(alloc)?;
@@ -65,6 +66,8 @@ fn play<R: Wait>(
     ensures goes { GoesOn desk.now chair.old chair.new }
     ensures played { IfOk result (λ how. (s : Session) → Begins chair.old.number s (core_as_seen desk.now.fixed chair.old) cpu.old sets.old.items
         → HasPlayedAt s chair.new cpu.new sets.new.items how) }
+    ensures left { OnErr result ((s : Session) → Begins chair.old.number s (core_as_seen desk.now.fixed chair.old) cpu.old sets.old.items
+        → HasLeft chair.old.number s (core_as_seen desk.now.fixed chair.new)) }
 {
     loop {
         if let Some(outcome) = go_on(rt, alloc, desk, chair, cpu, sets)? {

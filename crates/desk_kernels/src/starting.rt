@@ -22,7 +22,8 @@ pub(crate) enum Opening {
     Busy(StartOf),
 }
 
-/// Tries until no session is open, starts one, and answers its cursor (mu). That it ever starts is not promised.
+/// Tries until no session is open, starts one, and answers its cursor (mu). That it ever starts is not promised. The only error is
+/// want of memory, and then the chair has put nothing.
 pub(crate) fn start<R: Wait>(
     rt: &R,
     alloc: Global,
@@ -33,6 +34,7 @@ pub(crate) fn start<R: Wait>(
     requires at { IsAt desk.now chair.old }
     ensures goes { GoesOn desk.now chair.old chair.new }
     ensures started { IfOk result (λ cursor. HasStarted desk.now chair.old of cursor chair.new) }
+    ensures err { OnErr result (chair.new.own ≡ chair.old.own) }
 {
     let mut for_step = of;
     for _ in rt.forever() {
@@ -56,6 +58,7 @@ fn try_start<R: Wait>(
     requires at { IsAt desk.now chair.old }
     ensures goes { GoesOn desk.now chair.old chair.new }
     ensures opens { IfOk result (λ opening. Opens desk.now chair.old of opening chair.new) }
+    ensures err { OnErr result (chair.new.own ≡ chair.old.own) }
 {
     let who = chair.number();
     let mut held = desk.take(rt, chair);

@@ -1,6 +1,6 @@
 // The steps of a session at a desk: from the processor's stop to the next.
 
-ghost use Rattle.std.specs.Prelude.{IfOk, List};
+ghost use Rattle.std.specs.Prelude.{◌≡◌, IfOk, List, OnErr};
 ghost use Rattle.core_session.specs.Sessions.{Answered};
 ghost use Rattle.core_session.specs.Standing.{Session};
 ghost use Rattle.lab_kernels.specs.Standing.{HasAsking, HasUnderWay, IsAsking, IsUnderWay};
@@ -19,7 +19,7 @@ use std::alloc::{AllocError, Global};
 use std::sync::Wait;
 
 /// Lets the processor go on, outside of the desk, to its next request, which is asked until it is answered, or to its end. Then,
-/// and where a request isn't decided at the horizon, the session ends.
+/// and where a request isn't decided at the horizon, the session ends. The only error is want of memory, and then nothing was put.
 pub(crate) fn go_on<R: Wait>(
     rt: &R,
     alloc: Global,
@@ -33,6 +33,7 @@ pub(crate) fn go_on<R: Wait>(
     ensures goes { GoesOn desk.now chair.old chair.new }
     ensures leads { IfOk result (λ end. (s : Session) (asked : List Answered) → IsUnderWay chair.old.number s asked (core_as_seen desk.now.fixed chair.old) cpu.old sets.old.items
         → LeadsAt desk.now.fixed s asked chair.new cpu.new sets.new.items end) }
+    ensures err { OnErr result (chair.new.seen ≡ chair.old.seen) }
 {
     let stop = cpu.advance(alloc)?;
     match stop {
@@ -60,6 +61,7 @@ fn answer<R: Wait>(
     ensures goes { GoesOn desk.now chair.old chair.new }
     ensures leads { IfOk result (λ end. (s : Session) (asked : List Answered) → IsAsking chair.old.number s asked request (core_as_seen desk.now.fixed chair.old) cpu.old sets.old.items
         → LeadsAt desk.now.fixed s asked chair.new cpu.new sets.new.items end) }
+    ensures err { OnErr result (chair.new.seen ≡ chair.old.seen) }
 {
     // First of all, so that for want of memory nothing was asked. A request that sets a dataset is always decided.
     keep_set(alloc, sets, &request)?;

@@ -77,6 +77,7 @@ module _ (desks : Desks) (of : AreDesksOf desks) (number : ℕ) where
     closed = each-new (λ (c : CoreChair). (rid : ℕ) → open_session (core_entries c.seen) ≡ Some (number, rid) → ⊥) (λ desk rid is. none-some (number, rid) is) desks.cores.items;
     tied = new-tied;
     judged = tt;
+    owes = refl;
   }
 
   new-may : (member : Member) → member.worker ≡ new_worker desks number → MayWork desks member

@@ -1,5 +1,5 @@
 -- A step that was done.
-use Rattle.std.proofs.Common.{◌≡◌, ℕ, ◌<◌, length, sym, ap, subst, ◌∙◌, arith}
+use Rattle.std.proofs.Common.{◌≡◌, ℕ, ◌<◌, [], ◌∷◌, length, sym, ap, subst, ◌∙◌, arith}
 use Rattle.std.specs.Prelude.{Option, Some, None, IsTrue}
 use Rattle.rtio_core.specs.declared.data.StartOf.{StartOf}
 use Rattle.exp_runs.specs.declared.run.Run.{Run}
@@ -22,11 +22,12 @@ use Rattle.stage_work.proofs.Done.{has-call}
 use Rattle.lab_workers.specs.declared.desks.Desks.{Desks}
 use Rattle.lab_workers.specs.declared.tasks.Report.TheVariants as report
 use Rattle.lab_workers.specs.Reports.{HasTold, IsRight}
-use Rattle.lab_workers.specs.Rounds.{KeepsRest}
+use Rattle.lab_workers.specs.Rounds.{ComesTo}
 use Rattle.lab_workers.specs.Stepping.{HasDone, IsStartFor, MayStart}
 use Rattle.lab_workers.specs.Turns.{HasTaken}
-use Rattle.lab_workers.specs.Workers.{AreDesksOf, IsWorkerAt, SchedChair, WorkerValue, sched_entries}
+use Rattle.lab_workers.specs.Workers.{AreDesksOf, IsAtRest, IsWorkerAt, SchedChair, WorkerValue, sched_entries}
 use Rattle.lab_workers.proofs.Kerneled.{keeps-kernel}
+use Rattle.lab_workers.proofs.Owing.{told-lands}
 use Rattle.lab_workers.proofs.Resting.{keeps-quiet}
 use Rattle.lab_workers.proofs.Taken.{flies-now}
 use Rattle.lab_workers.proofs.Telling.{told-quietly}
@@ -126,22 +127,23 @@ step-right desks pipeline kit rid place step start old new ran is done (run, fou
 
 module _ (desks : Desks) (these : AreDesksOf desks) (pipeline : ℕ) (kit : Kit) (rid place : ℕ) (old new : WorkerValue) (e : SchedChair)
     (does : DoesAs (program_in kit) kit.compiled.1) (taken : HasTaken desks.session (name.Step rid place) old.sched) where
-  abbrev Keeps : Type 0
-  Keeps = KeepsRest desks.session old (record new { sched = e })
+  abbrev Keeps : WorkerValue → Type 0
+  Keeps v = ComesTo desks.session (name.Step rid place ∷ []) (IsAtRest desks.session) old (record v { sched = e })
 
   -- no session, and no result
-  nothing-done : new ≡ old → HasTold desks.session (report.Stepped rid place kit None) new.sched e → Keeps
+  nothing-done : new ≡ old → HasTold desks.session (report.Stepped rid place kit None) new.sched e → Keeps new
   nothing-done same told =
       let T : WorkerValue → Type 0 = λ v. HasTold desks.session (report.Stepped rid place kit None) v.sched e in
-      let K : WorkerValue → Type 0 = λ v. KeepsRest desks.session old (record v { sched = e }) in
-      subst K (sym same)
-      (keeps-quiet desks.session old e (told-quietly desks.session (report.Stepped rid place kit None) old.sched e tt (subst T same told)))
+      let its : HasTold desks.session (report.Stepped rid place kit None) old.sched e = subst T same told in
+      subst Keeps (sym same)
+      (keeps-quiet desks.session old e (told-quietly desks.session (report.Stepped rid place kit None) old.sched e tt its)
+      (name.Step rid place ∷ []) [] (told-lands desks.session (report.Stepped rid place kit None) old.sched e its))
 
   pub keeps-step : (step : HostStep) (start : Option StartOf) (ran : Option KernelResult)
       → IsStartFor kit rid place step start → HasDone desks pipeline kit start old new ran
       → IsJobFor kit_source KitText KitCall desks.session (state_after desks.session (sched_entries old.sched.seen)) (job.Step rid place pipeline step kit)
       → HasTold desks.session (report.Stepped rid place kit ran) new.sched e
-      → Keeps
+      → Keeps new
   keeps-step (Kernel called args) None ran is done of told = absurd is
   keeps-step (Kernel called args) (Some start) None is done of told = absurd done
   keeps-step (Kernel called args) (Some start) (Some result) (function, f, started) done of told =

@@ -8,17 +8,20 @@ use Rattle.sched_state.specs.declared.entry.SchedEntry.{SchedEntry}
 use Rattle.sched_state.specs.Lawful.{halt_by, halted_by}
 use Rattle.sched_core.specs.Calls.{entry_of, stopped, unless_halted}
 use Rattle.sched_core.specs.Scheds.{SchedValue}
-use Rattle.lab_workers.specs.Turns.{adds}
+use Rattle.lab_workers.specs.Turns.{adds, halt_due}
 use Rattle.lab_workers.specs.Workers.{SchedChair, sched_entries}
 use Rattle.lab_workers.proofs.Turning.{adds-none}
 
-by-cases : (who : ℕ) (value now : SchedValue) (by : Option ℕ) → now ≡ unless_halted who value by → (acts : List SchedAct) × (now ≡ adds who acts value)
-by-cases who value now None is = (Halted ∷ [], is)
-by-cases who value now (Some by) is = ([], is ∙ adds-none who value)
+by-cases : (who : ℕ) (value now : SchedValue) (by : Option ℕ) → now ≡ unless_halted who value by → now ≡ adds who (halt_due by) value
+by-cases who value now None is = is
+by-cases who value now (Some by) is = is ∙ adds-none who value
 
--- the chair adds a halt or nothing
+-- the chair adds a halt where one is due
+pub stopped-adds : (who : ℕ) (value now : SchedValue) → now ≡ stopped who value → now ≡ adds who (halt_due (halted_by value.history)) value
+stopped-adds who value now is = by-cases who value now (halted_by value.history) is
+
 pub stopped-went : (who : ℕ) (value now : SchedValue) → now ≡ stopped who value → (acts : List SchedAct) × (now ≡ adds who acts value)
-stopped-went who value now is = by-cases who value now (halted_by value.history) is
+stopped-went who value now is = (halt_due (halted_by value.history), stopped-adds who value now is)
 
 halted-so : (who : ℕ) (value now : SchedValue) (by : Option ℕ) → halted_by value.history ≡ by → now ≡ unless_halted who value by → IsSome (halted_by now.history)
 halted-so who value now None none is =

@@ -1,5 +1,5 @@
 -- What one holding of the scheduler comes to.
-use Rattle.std.proofs.Common.{◌≡◌, ℕ, List, ◌++◌, sym, ap, subst, ◌∙◌}
+use Rattle.std.proofs.Common.{◌≡◌, ℕ, List, [], ◌++◌, true, sym, ap, subst, ◌∙◌, append-nil}
 use mathlib.Core.List.{IsPrefix}
 use Rattle.desk.specs.Seated.{Puts, holding, losing}
 use Rattle.desk.proofs.Afterwards.{grew_held, puts_own}
@@ -12,7 +12,7 @@ use Rattle.sched_state.specs.Lawful.{IsLawful}
 use Rattle.sched_core.specs.Booked.{booked_acts}
 use Rattle.sched_core.specs.Scheds.{IsSched, SchedValue}
 use Rattle.desk_kernels.specs.Chairs.{IsSameChair, KnowsItsOwn}
-use Rattle.lab_workers.specs.Turns.{Follows, HasPut, adds, goes_on}
+use Rattle.lab_workers.specs.Turns.{Follows, HasPut, PutsNothing, adds, goes_on}
 use Rattle.lab_workers.specs.Workers.{SchedChair, sched_entries}
 use Rattle.lab_workers.proofs.Entries.{booked-on, sched-back}
 
@@ -49,6 +49,9 @@ module _ (c d e : SchedChair) (lost : List ℕ) (was value now : SchedValue) (wh
   pub put-sees : sched_entries e.seen ≡ now.history
   put-sees = ap (λ (x : SchedChair). sched_entries x.seen) put-so.2 ∙ sched-back now.history
 
+  put-won : e.won ≡ true
+  put-won = ap (λ (x : SchedChair). x.won) put-so.2
+
   pub put-own : e.own ≡ c.own ++ acts
   put-own =
       puts_own (holding (losing c lost) (booked_acts was.history)) e (booked_acts now.history) acts put-so
@@ -70,6 +73,7 @@ module _ (c d e : SchedChair) (lost : List ℕ) (was value now : SchedValue) (wh
     later = begins;
     known = knows;
     same = put-same;
+    won = put-won;
     seen = put-seen;
     own = put-own;
   }
@@ -94,4 +98,12 @@ follows-has session found acts c e put = record {
       prefix_trans c.seen (booked_acts found) e.seen put.later
       (entries_by c.number acts, sym (put.seen ∙ booked-on found c.number acts));
   own = (acts, sym put.own);
+}
+
+-- nothing was put
+pub puts-nothing : (session : Session) (found : List SchedEntry) (c e : SchedChair) → HasPut session found [] c e → PutsNothing c e
+puts-nothing session found c e put = record {
+  follows = follows-has session found [] c e put;
+  own = put.own ∙ append-nil c.own;
+  knows = λ known. knows-put session found [] c e put;
 }

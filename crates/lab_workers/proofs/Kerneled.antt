@@ -48,12 +48,13 @@ use Rattle.desk_kernels.specs.Kernels.{IsKernelSession, KernelRun, RunsKernelAt,
 use Rattle.lab_workers.specs.declared.desks.Desks.{Desks}
 use Rattle.lab_workers.specs.declared.tasks.Report.TheVariants as report
 use Rattle.lab_workers.specs.Reports.{HasTold, step_told}
-use Rattle.lab_workers.specs.Rounds.{KeepsRest}
+use Rattle.lab_workers.specs.Rounds.{ComesTo}
 use Rattle.lab_workers.specs.Stepping.{RunsAt}
 use Rattle.lab_workers.specs.Turns.{HasTaken}
-use Rattle.lab_workers.specs.Workers.{AreDesksOf, IsClosed, IsTiedAt, SchedChair, WorkerValue, sched_entries}
+use Rattle.lab_workers.specs.Workers.{AreDesksOf, IsAtRest, IsClosed, IsTiedAt, SchedChair, WorkerValue, sched_entries}
 use Rattle.lab_workers.proofs.Entries.{core-further, sched-further}
 use Rattle.lab_workers.proofs.Holdings.{follows-has, knows-put, sees-put}
+use Rattle.lab_workers.proofs.Owing.{told-lands}
 use Rattle.lab_workers.proofs.Resting.{each-get, each-set, halts-same, judged-later, tied-later}
 use Rattle.lab_workers.proofs.Taken.{flies-still}
 use Rattle.lab_workers.proofs.Telling.{no-halt}
@@ -145,10 +146,10 @@ module _ (desks : Desks) (these : AreDesksOf desks) (w : WorkerValue) (pipeline 
   act = step_told session told.found rid place (Some result)
 
   abbrev done : WorkerValue
-  done = record { number = w.number; sched = e; cores = slice_set w.cores pipeline ran.now }
+  done = record { number = w.number; sched = e; cores = slice_set w.cores pipeline ran.core.now }
 
-  left : Leaves session kit of ran.desk.fixed w.number ran.was ran.now ran.ran.before ran.ran.k
-  left = leaves-of session kit of ran.desk.fixed w.number ran.was ran.now result ran.number ran.ran
+  left : Leaves session kit of ran.core.desk.fixed w.number ran.core.was ran.core.now ran.core.so.before ran.core.so.k
+  left = leaves-of session kit of ran.core.desk.fixed w.number ran.core.was ran.core.now result ran.core.number_is ran.core.so
 
   job-there : IsJobFor kit_source KitText KitCall session (state_after session told.found) (job.Step rid place pipeline (Kernel called args) kit)
   job-there =
@@ -170,36 +171,36 @@ module _ (desks : Desks) (these : AreDesksOf desks) (w : WorkerValue) (pipeline 
   }
 
   -- the session is one of the step
-  step-there : IsKernelStep session ran.desk.fixed (sched_entries e.seen) pipeline w.number (ran.ran.before ++ session_entries w.number ran.ran.before ran.ran.k) ran.ran.k
+  step-there : IsKernelStep session ran.core.desk.fixed (sched_entries e.seen) pipeline w.number (ran.core.so.before ++ session_entries w.number ran.core.so.before ran.core.so.k) ran.core.so.k
   step-there =
       let O : StartOf → Type 0 = λ o.
-      IsKernelSession (program_in kit) kit.compiled.1 session.budget w.number o ran.desk.fixed ran.ran.before
-      (ran.ran.before ++ session_entries w.number ran.ran.before ran.ran.k) ran.ran.k in
+      IsKernelSession (program_in kit) kit.compiled.1 session.budget w.number o ran.core.desk.fixed ran.core.so.before
+      (ran.core.so.before ++ session_entries w.number ran.core.so.before ran.core.so.k) ran.core.so.k in
       let S : List SchedEntry → Type 0 = λ h.
-      IsKernelStep session ran.desk.fixed h pipeline w.number (ran.ran.before ++ session_entries w.number ran.ran.before ran.ran.k) ran.ran.k in
+      IsKernelStep session ran.core.desk.fixed h pipeline w.number (ran.core.so.before ++ session_entries w.number ran.core.so.before ran.core.so.k) ran.core.so.k in
       subst S (sym (sees-put session told.found (act ∷ []) w.sched e told.put))
-      (kernels-are-steps session told.found (entry_of w.sched.number act ∷ []) rid place pipeline w.number function called args kit ran.desk.fixed
-      ran.ran.before (ran.ran.before ++ session_entries w.number ran.ran.before ran.ran.k) ran.ran.k
+      (kernels-are-steps session told.found (entry_of w.sched.number act ∷ []) rid place pipeline w.number function called args kit ran.core.desk.fixed
+      ran.core.so.before (ran.core.so.before ++ session_entries w.number ran.core.so.before ran.core.so.k) ran.core.so.k
       job-there f does (subst O started left.is_session))
 
-  one : reports_of pipeline (act ∷ []) ≡ report_on ran.ran.k ∷ []
+  one : reports_of pipeline (act ∷ []) ≡ report_on ran.core.so.k ∷ []
   one =
-      one-report w.sched.number there where_is (Kernel called args) kit taken-there result ran.ran.k of left.is_session.of_is
-      (ap (λ (o : StartOf). o.rid) started) (ap (λ (o : StartOf). o.pos) started) ran.ran.told
+      one-report w.sched.number there where_is (Kernel called args) kit taken-there result ran.core.so.k of left.is_session.of_is
+      (ap (λ (o : StartOf). o.rid) started) (ap (λ (o : StartOf). o.pos) started) ran.core.so.told
 
-  own-tied : IsTiedAt session w pipeline ran.was → IsTiedAt session done pipeline ran.now
+  own-tied : IsTiedAt session w pipeline ran.core.was → IsTiedAt session done pipeline ran.core.now
   own-tied (config, config_is, tied) =
-      let both : Some config ≡ Some ran.desk.fixed = sym config_is ∙ these.cores pipeline ran.desk ran.at in
-      let one_config : config ≡ ran.desk.fixed = cc in
-      let C : Config → Type 0 = λ c. AreTied session pipeline c w.number (sched_entries e.seen) w.sched.own (core_entries ran.was.seen) ran.was.own in
+      let both : Some config ≡ Some ran.core.desk.fixed = sym config_is ∙ these.cores pipeline ran.core.desk ran.core.at in
+      let one_config : config ≡ ran.core.desk.fixed = cc in
+      let C : Config → Type 0 = λ c. AreTied session pipeline c w.number (sched_entries e.seen) w.sched.own (core_entries ran.core.was.seen) ran.core.was.own in
       let R : List SchedAct → Type 0 = λ own.
-      AreTied session pipeline ran.desk.fixed w.number (sched_entries e.seen) own (core_entries ran.now.seen) ran.now.own in (
-        ran.desk.fixed,
-        these.cores pipeline ran.desk ran.at,
+      AreTied session pipeline ran.core.desk.fixed w.number (sched_entries e.seen) own (core_entries ran.core.now.seen) ran.core.now.own in (
+        ran.core.desk.fixed,
+        these.cores pipeline ran.core.desk ran.core.at,
         subst R (sym told.put.own)
-            (tied-grown session kit of ran.desk.fixed w.number ran.was ran.now ran.ran.before ran.ran.k left pipeline (sched_entries e.seen) w.sched.own act
+            (tied-grown session kit of ran.core.desk.fixed w.number ran.core.was ran.core.now ran.core.so.before ran.core.so.k left pipeline (sched_entries e.seen) w.sched.own act
             (subst C one_config
-            (tied-later session pipeline config w.number w.sched.seen e.seen w.sched.own (core_entries ran.was.seen) ran.was.own
+            (tied-later session pipeline config w.number w.sched.seen e.seen w.sched.own (core_entries ran.core.was.seen) ran.core.was.own
             (follows-has session told.found (act ∷ []) w.sched e told.put).seen tied))
             one
             step-there),
@@ -218,24 +219,24 @@ module _ (desks : Desks) (these : AreDesksOf desks) (w : WorkerValue) (pipeline 
       )
 
   all-tied : ((other : ℕ) (chair : CoreChair) → slice_get w.cores other ≡ Some chair → IsTiedAt session w other chair)
-      → (other : ℕ) (chair : CoreChair) → slice_get (slice_set w.cores pipeline ran.now) other ≡ Some chair → IsTiedAt session done other chair
-  all-tied tied other chair at = which (set-at w.cores pipeline other ran.now chair at)
+      → (other : ℕ) (chair : CoreChair) → slice_get (slice_set w.cores pipeline ran.core.now) other ≡ Some chair → IsTiedAt session done other chair
+  all-tied tied other chair at = which (set-at w.cores pipeline other ran.core.now chair at)
     where
-      which : ((other ≡ pipeline) × (chair ≡ ran.now)) ⊎ ((other ≢ pipeline) × (slice_get w.cores other ≡ Some chair)) → IsTiedAt session done other chair
+      which : ((other ≡ pipeline) × (chair ≡ ran.core.now)) ⊎ ((other ≢ pipeline) × (slice_get w.cores other ≡ Some chair)) → IsTiedAt session done other chair
       which (inl here) =
           let P : ℕ → Type 0 = λ n. IsTiedAt session done n chair in
           let C : CoreChair → Type 0 = λ c. IsTiedAt session done pipeline c in
-          subst P (sym here.0) (subst C (sym here.1) (own-tied (tied pipeline ran.was ran.found)))
+          subst P (sym here.0) (subst C (sym here.1) (own-tied (tied pipeline ran.core.was ran.core.found)))
       which (inr there) = other-tied other chair there.0 (tied other chair there.1)
 
-  keeps-done : KeepsRest session w done
+  keeps-done : ComesTo session (name.Step rid place ∷ []) (IsAtRest session) w done
   keeps-done = record {
     rest = λ r. record {
       sched_own = knows-put session told.found (act ∷ []) w.sched e told.put;
-      core_own = each-set KnowsItsOwn w.cores pipeline ran.now r.core_own (ran.knows (each-get KnowsItsOwn w.cores pipeline ran.was r.core_own ran.found));
+      core_own = each-set KnowsItsOwn w.cores pipeline ran.core.now r.core_own (ran.core.knows (each-get KnowsItsOwn w.cores pipeline ran.core.was r.core_own ran.core.found));
       closed =
-          each-set (IsClosed w.number) w.cores pipeline ran.now r.closed
-          (closed-there session kit of ran.desk.fixed w.number ran.was ran.now ran.ran.before ran.ran.k left);
+          each-set (IsClosed w.number) w.cores pipeline ran.core.now r.closed
+          (closed-there session kit of ran.core.desk.fixed w.number ran.core.was ran.core.now ran.core.so.before ran.core.so.k left);
       tied = all-tied r.tied;
       judged =
           (let J : List SchedAct → Type 0 = λ own. Each (IsJudged session (sched_entries e.seen)) own in
@@ -243,9 +244,12 @@ module _ (desks : Desks) (these : AreDesksOf desks) (w : WorkerValue) (pipeline 
           (each_append (IsJudged session (sched_entries e.seen)) w.sched.own (act ∷ [])
           (judged-later session w.sched.seen e.seen w.sched.own (follows-has session told.found (act ∷ []) w.sched e told.put).seen r.judged)
           (told.judged, tt)));
+      owes = told-lands session (report.Stepped rid place kit (Some result)) w.sched e told r.owes;
     };
     halts_are = halts-same w.sched e (act ∷ []) told.put.own (no-halt session told.found (report.Stepped rid place kit (Some result)));
   }
 
-  pub keeps-kernel : KeepsRest session w (record w1 { sched = e })
-  keeps-kernel = let K : WorkerValue → Type 0 = λ v. KeepsRest session w (record v { sched = e }) in subst K (sym ran.leaves) keeps-done
+  pub keeps-kernel : ComesTo session (name.Step rid place ∷ []) (IsAtRest session) w (record w1 { sched = e })
+  keeps-kernel =
+      let K : WorkerValue → Type 0 = λ v. ComesTo session (name.Step rid place ∷ []) (IsAtRest session) w (record v { sched = e }) in
+      subst K (sym (ran.leaves ∙ ap (λ (cores : List CoreChair). record w { cores = cores }) ran.core.leaves)) keeps-done

@@ -1,5 +1,6 @@
 pub mod Entries
 pub mod Holdings
+pub mod Owing
 pub mod Taken
 pub mod Turning
 pub mod Telling
@@ -7,6 +8,7 @@ pub mod Resting
 pub mod Kerneled
 pub mod Waiting
 pub mod Doing
+pub mod Leaving
 pub mod Halted
 pub mod Rounds
 pub use Rattle.stage_work.proofs.Beginning

@@ -1,6 +1,6 @@
 -- A worker between two jobs, after quiet acts at the scheduler.
 use Rattle.std.proofs.Common.{◌≡◌, ℕ, zero, suc, List, [], ◌∷◌, ◌++◌, refl, sym, ap, subst, ◌∙◌, append-nil}
-use Rattle.std.specs.Prelude.{Some, filter, slice_get, slice_set}
+use Rattle.std.specs.Prelude.{Option, Some, None, filter, slice_get, slice_set}
 use Rattle.std.proofs.lemmas.List.{map-append}
 use Rattle.std.proofs.lemmas.List.Elements.{filter-append}
 use mathlib.Core.List.{IsPrefix}
@@ -11,18 +11,21 @@ use Rattle.rtio_core.specs.declared.data.Act.{Act}
 use Rattle.rtio_core.specs.declared.data.Config.{Config}
 use Rattle.rtio_core.specs.declared.data.Entry.{Entry}
 use Rattle.exp_model.specs.declared.session.Session.{Session}
+use Rattle.sched_state.specs.declared.entry.JobName.{JobName}
 use Rattle.sched_state.specs.declared.entry.SchedAct.{SchedAct}
 use Rattle.sched_state.specs.declared.entry.SchedEntry.{SchedEntry}
+use Rattle.sched_state.specs.Lawful.{halted_by}
 use Rattle.stage_work.proofs.Beginning.{tied-further}
 use Rattle.stage_work.proofs.Lasting.{judgements-last, ties-last}
 use Rattle.stage_work.specs.Judged.{IsJudged}
-use Rattle.stage_work.specs.Ties.{AreTied}
-use Rattle.desk_kernels.specs.Chairs.{CoreChair, core_entries}
+use Rattle.stage_work.specs.Ties.{AreTied, reports_of}
+use Rattle.desk_kernels.specs.Chairs.{CoreChair, KnowsItsOwn, core_entries}
 use Rattle.lab_workers.specs.declared.desks.Desks.{Desks}
-use Rattle.lab_workers.specs.Rounds.{GoesOn, KeepsRest}
-use Rattle.lab_workers.specs.Turns.{Follows, PutsQuietly}
-use Rattle.lab_workers.specs.Workers.{IsTiedAt, IsWorkerAt, SchedChair, WorkerValue, halts, is_halt, sched_entries}
+use Rattle.lab_workers.specs.Rounds.{ComesTo, GoesOn, KeepsRest}
+use Rattle.lab_workers.specs.Turns.{Follows, HasHalted, PutsNothing, PutsQuietly, halt_due}
+use Rattle.lab_workers.specs.Workers.{IsTiedAt, IsWorkerAt, SchedChair, StandsWith, WorkerValue, halts, is_halt, owed, sched_entries}
 use Rattle.lab_workers.proofs.Holdings.{follows-has, knows-put}
+use Rattle.lab_workers.proofs.Owing.{halt-owes}
 
 -- ---- lists of which it holds
 
@@ -69,8 +72,14 @@ goes-sched desks w e at follows = record {
 pub keeps-same : (session : Session) (w : WorkerValue) → KeepsRest session w w
 keeps-same session w = record { rest = λ r. r; halts_are = refl }
 
-pub keeps-trans : (session : Session) (a b c : WorkerValue) → KeepsRest session a b → KeepsRest session b c → KeepsRest session a c
-keeps-trans session a b c first then = record { rest = λ r. then.rest (first.rest r); halts_are = then.halts_are ∙ first.halts_are }
+pub comes-trans : (session : Session) (jobs mid : List JobName) (This : WorkerValue → Type 0) (a b c : WorkerValue)
+    → ComesTo session jobs (StandsWith session mid) a b → ComesTo session mid This b c → ComesTo session jobs This a c
+comes-trans session jobs mid This a b c first then = record { rest = λ r. then.rest (first.rest r); halts_are = then.halts_are ∙ first.halts_are }
+
+-- a worker whose fields are known
+pub comes-from : (session : Session) (jobs : List JobName) (This : WorkerValue → Type 0) (inside w new : WorkerValue) → inside ≡ w
+    → ComesTo session jobs This inside new → ComesTo session jobs This w new
+comes-from session jobs This inside w new is = let C : WorkerValue → Type 0 = λ v. ComesTo session jobs This v new in subst C is
 
 -- ---- a longer history of the scheduler
 
@@ -105,37 +114,66 @@ halts-on acts more none =
 pub halts-same : (old new : SchedChair) (acts : List SchedAct) → new.own ≡ old.own ++ acts → filter is_halt acts ≡ [] → halts new ≡ halts old
 halts-same old new acts is none = ap (filter is_halt) is ∙ halts-on old.own acts none
 
--- ---- quiet acts
+-- ---- more acts at the scheduler, that report no step of a kernel
 
-module _ (session : Session) (w : WorkerValue) (e : SchedChair) (quietly : PutsQuietly session w.sched e) where
-  follows : Follows w.sched e
-  follows = follows-has session quietly.found quietly.acts w.sched e quietly.put
-
-  tied-quiet : (pipeline : ℕ) (chair : CoreChair) → IsTiedAt session w pipeline chair → IsTiedAt session (record w { sched = e }) pipeline chair
-  tied-quiet pipeline chair (config, is, tied) =
+module _ (session : Session) (w : WorkerValue) (e : SchedChair) (acts : List SchedAct) (follows : Follows w.sched e) (own : e.own ≡ w.sched.own ++ acts)
+    (knows : KnowsItsOwn w.sched → KnowsItsOwn e) (steps : (pipeline : ℕ) → reports_of pipeline acts ≡ [])
+    (right : Each (IsJudged session (sched_entries e.seen)) acts) where
+  tied-on : (pipeline : ℕ) (chair : CoreChair) → IsTiedAt session w pipeline chair → IsTiedAt session (record w { sched = e }) pipeline chair
+  tied-on pipeline chair (config, is, tied) =
       let R : List SchedAct → Type 0 = λ own.
       AreTied session pipeline config w.number (sched_entries e.seen) own (core_entries chair.seen) chair.own in (
         config,
         is,
-        subst R (sym quietly.put.own)
-            (tied-further session pipeline config w.number (sched_entries e.seen) w.sched.own quietly.acts (core_entries chair.seen) chair.own
-            (quietly.quiet.steps pipeline)
+        subst R (sym own)
+            (tied-further session pipeline config w.number (sched_entries e.seen) w.sched.own acts (core_entries chair.seen) chair.own
+            (steps pipeline)
             (tied-later session pipeline config w.number w.sched.seen e.seen w.sched.own (core_entries chair.seen) chair.own follows.seen tied)),
       )
 
-  pub keeps-quiet : KeepsRest session w (record w { sched = e })
-  keeps-quiet = record {
-    rest = λ r. record {
-      sched_own = knows-put session quietly.found quietly.acts w.sched e quietly.put;
-      core_own = r.core_own;
-      closed = r.closed;
-      tied = λ pipeline chair at. tied-quiet pipeline chair (r.tied pipeline chair at);
-      judged =
-          (let J : List SchedAct → Type 0 = λ own. Each (IsJudged session (sched_entries e.seen)) own in
-          subst J (sym quietly.put.own)
-          (each_append (IsJudged session (sched_entries e.seen)) w.sched.own quietly.acts
-          (judged-later session w.sched.seen e.seen w.sched.own follows.seen r.judged)
-          quietly.quiet.judged));
-    };
-    halts_are = halts-same w.sched e quietly.acts quietly.put.own quietly.quiet.halts;
+  pub stands-on : (jobs now : List JobName) → (owed w.sched.own ≡ jobs → owed e.own ≡ now) → StandsWith session jobs w → StandsWith session now (record w { sched = e })
+  stands-on jobs now owes r = record {
+    sched_own = knows r.sched_own;
+    core_own = r.core_own;
+    closed = r.closed;
+    tied = λ pipeline chair at. tied-on pipeline chair (r.tied pipeline chair at);
+    judged =
+        (let J : List SchedAct → Type 0 = λ own. Each (IsJudged session (sched_entries e.seen)) own in
+        subst J (sym own)
+        (each_append (IsJudged session (sched_entries e.seen)) w.sched.own acts
+        (judged-later session w.sched.seen e.seen w.sched.own follows.seen r.judged)
+        right));
+    owes = owes r.owes;
   }
+
+-- quiet acts
+pub keeps-quiet : (session : Session) (w : WorkerValue) (e : SchedChair) → PutsQuietly session w.sched e → (jobs now : List JobName) → (owed w.sched.own ≡ jobs → owed e.own ≡ now)
+    → ComesTo session jobs (StandsWith session now) w (record w { sched = e })
+keeps-quiet session w e quietly jobs now owes = record {
+  rest =
+      stands-on session w e quietly.acts (follows-has session quietly.found quietly.acts w.sched e quietly.put) quietly.put.own
+      (λ known. knows-put session quietly.found quietly.acts w.sched e quietly.put) quietly.quiet.steps quietly.quiet.judged jobs now owes;
+  halts_are = halts-same w.sched e quietly.acts quietly.put.own quietly.quiet.halts;
+}
+
+-- none
+pub stands-looked : (session : Session) (w : WorkerValue) (e : SchedChair) → PutsNothing w.sched e → (jobs : List JobName) → StandsWith session jobs w → StandsWith session jobs (record w { sched = e })
+stands-looked session w e nothing jobs =
+    stands-on session w e [] nothing.follows (nothing.own ∙ sym (append-nil w.sched.own)) nothing.knows (λ pipeline. refl) tt jobs jobs
+    (λ owes. ap owed nothing.own ∙ owes)
+
+-- a halt
+halt-steps : (by : Option ℕ) (pipeline : ℕ) → reports_of pipeline (halt_due by) ≡ []
+halt-steps None pipeline = refl
+halt-steps (Some by) pipeline = refl
+
+halt-judged : (session : Session) (sched : List SchedEntry) (by : Option ℕ) → Each (IsJudged session sched) (halt_due by)
+halt-judged session sched None = (tt, tt)
+halt-judged session sched (Some by) = tt
+
+pub stands-halted : (session : Session) (w : WorkerValue) (e : SchedChair) → HasHalted session w.sched e → (jobs : List JobName) → StandsWith session jobs w → StandsWith session jobs (record w { sched = e })
+stands-halted session w e (found, put) jobs =
+    let by : Option ℕ = halted_by found in
+    stands-on session w e (halt_due by) (follows-has session found (halt_due by) w.sched e put) put.own
+    (λ known. knows-put session found (halt_due by) w.sched e put) (halt-steps by) (halt-judged session (sched_entries e.seen) by) jobs jobs
+    (λ owes. ap owed put.own ∙ (halt-owes by w.sched.own ∙ owes))

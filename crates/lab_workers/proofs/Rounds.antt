@@ -1,25 +1,28 @@
 -- A worker whose fields are known, in a round.
-use Rattle.std.proofs.Common.{◌≡◌, ◌≢◌, ℕ, List, length, false, refl, sym, ap, subst, ◌∙◌, inl, inr}
+use Rattle.std.proofs.Common.{◌≡◌, ◌≢◌, ℕ, List, [], length, true, false, refl, sym, ap, subst, ◌∙◌, inl, inr}
 use Rattle.std.specs.Prelude.{◌⊎◌, IsTrue, Option, Some, None, slice_get, slice_set}
 use Rattle.std.proofs.lemmas.List.{length-set}
+use mathlib.Core.List.{IsPrefix}
 use Rattle.desk.specs.Seated.{Opened}
 use Rattle.desk_rule.specs.Histories.{Each}
 use Rattle.desk_rule.proofs.Prefixes.{prefix_same}
 use Rattle.rtio_core.specs.declared.data.Config.{Config}
 use Rattle.exp_model.specs.declared.session.Session.{Session}
+use Rattle.sched_state.specs.declared.entry.JobName.{JobName}
 use Rattle.sched_state.specs.Lawful.{halted_by, state_after}
 use Rattle.sched_state.specs.Picks.{is_over}
 use Rattle.stage_work.proofs.Cores.{set-at}
-use Rattle.desk_kernels.specs.Chairs.{CoreChair, IsAt, IsSameChair}
+use Rattle.desk_kernels.specs.Chairs.{CoreChair, IsAt, IsSameChair, KnowsItsOwn}
 use Rattle.lab_workers.specs.declared.desks.Desks.{Desks}
 use Rattle.lab_workers.specs.declared.tasks.Turn.{Turn}
 use Rattle.lab_workers.specs.declared.worker.WorkEnd.{WorkEnd}
 use Rattle.lab_workers.specs.declared.worker.WorkEnd.TheVariants.{Finished, Memory, Stopped}
 use Rattle.lab_workers.specs.Idling.{AreAt, HaveWaited}
-use Rattle.lab_workers.specs.Rounds.{GoesOn, IsEnd, IsEndIf, KeepsRest}
+use Rattle.lab_workers.specs.Rounds.{ComesTo, GoesOn, IsEnd, IsEndIf, KeepsRest}
+use Rattle.lab_workers.specs.Stepping.{UsesCore}
 use Rattle.lab_workers.specs.Turns.{Follows, HasTurned, PutsQuietly}
-use Rattle.lab_workers.specs.Workers.{IsFree, IsWorkerAt, SchedChair, WorkerValue, sched_entries}
-use Rattle.lab_workers.proofs.Resting.{each-get, each-set, goes-sched, goes-trans, keeps-quiet, keeps-trans}
+use Rattle.lab_workers.specs.Workers.{IsAtRest, IsFree, IsWorkerAt, SchedChair, StandsWith, WorkerValue, owed, sched_entries}
+use Rattle.lab_workers.proofs.Resting.{comes-trans, each-get, each-set, goes-sched, goes-trans, keeps-quiet}
 use Rattle.lab_workers.proofs.Waiting.{goes-waited, keeps-waited}
 
 -- the same chair still has the number, and holds nothing
@@ -47,10 +50,11 @@ module _ (desks : Desks) (inside w : WorkerValue) (is : inside ≡ w) (at : IsWo
       let G : WorkerValue → Type 0 = λ v. GoesOn desks v (record inside { sched = e }) in
       subst G is (goes-sched desks inside e at-inside follows)
 
-  pub keeps-turn : (e : SchedChair) → PutsQuietly desks.session inside.sched e → KeepsRest desks.session w (record inside { sched = e })
-  keeps-turn e quietly =
-      let K : WorkerValue → Type 0 = λ v. KeepsRest desks.session v (record inside { sched = e }) in
-      subst K is (keeps-quiet desks.session inside e quietly)
+  pub keeps-turn : (e : SchedChair) → PutsQuietly desks.session inside.sched e → (jobs now : List JobName) → (owed inside.sched.own ≡ jobs → owed e.own ≡ now)
+      → ComesTo desks.session jobs (StandsWith desks.session now) w (record inside { sched = e })
+  keeps-turn e quietly jobs now owes =
+      let K : WorkerValue → Type 0 = λ v. ComesTo desks.session jobs (StandsWith desks.session now) v (record inside { sched = e }) in
+      subst K is (keeps-quiet desks.session inside e quietly jobs now owes)
 
   -- its chairs at the cores' desks
   pub cores-at : Each (IsFree inside.number) inside.cores → AreAt desks.cores.items inside.cores
@@ -68,11 +72,12 @@ module _ (desks : Desks) (inside w : WorkerValue) (is : inside ≡ w) (at : IsWo
       goes-trans desks w (record inside { sched = e }) (record { number = inside.number; sched = e; cores = cores }) first
       (goes-waited (record inside { sched = e }) cores waited desks first.at)
 
-  pub keeps-idle : (e : SchedChair) (cores : List CoreChair) → PutsQuietly desks.session inside.sched e → Each (IsFree inside.number) inside.cores
+  pub keeps-idle : (e : SchedChair) (cores : List CoreChair) → PutsQuietly desks.session inside.sched e → (owed inside.sched.own ≡ [] → owed e.own ≡ [])
+      → Each (IsFree inside.number) inside.cores
       → HaveWaited inside.cores cores → KeepsRest desks.session w (record { number = inside.number; sched = e; cores = cores })
-  keeps-idle e cores quietly free waited =
-      keeps-trans desks.session w (record inside { sched = e }) (record { number = inside.number; sched = e; cores = cores })
-      (keeps-turn e quietly)
+  keeps-idle e cores quietly owes free waited =
+      comes-trans desks.session [] [] (IsAtRest desks.session) w (record inside { sched = e }) (record { number = inside.number; sched = e; cores = cores })
+      (keeps-turn e quietly [] [] owes)
       (keeps-waited (record inside { sched = e }) cores waited desks.session free)
 
   -- it used one of them
@@ -97,17 +102,49 @@ module _ (desks : Desks) (inside w : WorkerValue) (is : inside ≡ w) (at : IsWo
           ap (λ (c : CoreChair). c.desk) here.1 ∙ (same.0 ∙ at-inside.cores other desk was there (subst F (sym here.0) found))
       which other desk chair there (inr apart) = at-inside.cores other desk chair there apart.1
 
+-- ---- a core
+
+-- the worker has used its chair at one core's desk
+pub uses-core : (desks : Desks) (inside w : WorkerValue) → inside ≡ w → (pipeline : ℕ) (Changes : Config → CoreChair → CoreChair → Type 0) (desk : Opened Config) (was now : CoreChair)
+    → slice_get desks.cores.items pipeline ≡ Some desk → slice_get inside.cores pipeline ≡ Some was → was.number ≡ inside.number
+    → IsSameChair was now → IsPrefix was.seen now.seen → (KnowsItsOwn was → KnowsItsOwn now) → Changes desk.fixed was now
+    → UsesCore desks pipeline Changes w (record inside { cores = slice_set inside.cores pipeline now })
+uses-core desks inside w is pipeline Changes desk was now at found number same later knows so =
+    let U : WorkerValue → Type 0 = λ v. UsesCore desks pipeline Changes v (record inside { cores = slice_set inside.cores pipeline now }) in
+    subst U is (record {
+      core = record {
+        desk = desk;
+        was = was;
+        now = now;
+        at = at;
+        found = found;
+        leaves = refl;
+        number_is = number;
+        same = same;
+        later = later;
+        knows = knows;
+        so = so;
+      };
+      leaves = refl;
+    })
+
 -- ---- an end
 
 module _ (session : Session) (chair : SchedChair) (end : WorkEnd) (ended : IsEnd session chair end) where
   pub end-finished : end ≡ Finished → (halted_by (sched_entries chair.seen) ≡ None) × IsTrue (is_over (state_after session (sched_entries chair.seen)))
-  end-finished is = subst (IsEnd session chair) is ended
+  end-finished is = let its = subst (IsEnd session chair) is ended in (its.1, its.2)
 
   pub end-stopped : (by : ℕ) → end ≡ Stopped by → halted_by (sched_entries chair.seen) ≡ Some by
-  end-stopped by is = subst (IsEnd session chair) is ended
+  end-stopped by is = (subst (IsEnd session chair) is ended).1
 
   pub end-no-memory : end ≡ Memory → ⊥
   end-no-memory is = subst (IsEnd session chair) is ended
+
+-- it has asked the scheduler
+pub end-asked : (session : Session) (chair : SchedChair) (end : WorkEnd) → IsEnd session chair end → chair.won ≡ true
+end-asked session chair Finished ended = ended.0
+end-asked session chair (Stopped by) ended = ended.0
+end-asked session chair Memory ended = absurd ended
 
 pub ends-as : (session : Session) (chair : SchedChair) (found : Option WorkEnd) (end : WorkEnd) → found ≡ Some end → IsEndIf session chair found
     → IsEnd session chair end

@@ -16,12 +16,13 @@ use Rattle.stage_work.specs.Ties.{reports_of}
 use Rattle.stage_work.specs.Jobs.{Flies}
 use Rattle.lab_workers.specs.declared.tasks.Report.{Report}
 use Rattle.lab_workers.specs.declared.tasks.Report.TheVariants as report
-use Rattle.lab_workers.specs.Reports.{HasTold, IsRight, act_told}
-use Rattle.lab_workers.specs.Turns.{HasPut, HasTaken, PutsQuietly, adds}
+use Rattle.lab_workers.specs.Reports.{HasTold, IsRight, act_told, job_told}
+use Rattle.lab_workers.specs.Turns.{HasPut, HasTaken, PutsNothing, PutsQuietly, ReportsQuietly, adds}
 use Rattle.lab_workers.specs.Workers.{SchedChair, is_halt, sched_entries}
 use Rattle.lab_workers.proofs.Holdings.{has-put, sees-put}
 use Rattle.lab_workers.proofs.Taken.{flies-still, right-judged, right-still}
-use Rattle.lab_workers.proofs.Turning.{adds-none}
+use Rattle.lab_workers.proofs.Owing.{told-lands}
+use Rattle.lab_workers.proofs.Turning.{adds-none, has-looked}
 
 -- told or not, the scheduler's history went on by acts of the chair
 pub told-or-not : {E : Type 0} (r : Result (Unit {0}) E) (who : ℕ) (a : SchedAct) (value now : SchedValue)
@@ -75,6 +76,10 @@ module _ (session : Session) (chair : SchedChair) (was value : SchedValue) (who 
             (right-still session told chair was.history begins right));
       }
 
+  pub untold : (d e : SchedChair) (lost : List ℕ) (now : SchedValue) → d ≡ holding (losing chair lost) (booked_acts was.history)
+      → Puts d (booked_acts now.history) e → now ≡ value → PutsNothing chair e
+  untold d e lost now held puts nothing = has-looked chair d e lost was value now who session own held same puts is known begins knows nothing
+
 -- ---- reports that are quiet
 
 -- a report that has no result
@@ -106,3 +111,7 @@ told-quietly session told c e free t = record {
     judged = (t.judged, tt);
   };
 }
+
+-- and the job is no longer owed
+pub reports-quietly : (session : Session) (told : Report) (c e : SchedChair) → HasNoResult told → HasTold session told c e → ReportsQuietly session (job_told told) c e
+reports-quietly session told c e free t = record { quietly = told-quietly session told c e free t; lands = told-lands session told c e t }

@@ -28,10 +28,11 @@ use Rattle.stage_work.proofs.Scheds.{job-lasts}
 use Rattle.lab_workers.specs.declared.tasks.Task.{Task}
 use Rattle.lab_workers.specs.declared.tasks.Turn.{Turn}
 use Rattle.lab_workers.specs.declared.tasks.Turn.TheVariants as turn
-use Rattle.lab_workers.specs.Tasks.{IsTakenLast, IsTaskIn, IsTurnIn, job_of}
-use Rattle.lab_workers.specs.Turns.{AreQuiet, HasPut, HasTaken, HasTurned, IsTurn, adds, goes_on}
-use Rattle.lab_workers.specs.Workers.{SchedChair, is_halt, sched_entries}
-use Rattle.lab_workers.proofs.Holdings.{has-put, knows-put, sees-put}
+use Rattle.lab_workers.specs.Tasks.{IsTakenLast, IsTaskIn, IsTurnIn, job_in, job_of}
+use Rattle.lab_workers.specs.Turns.{AreQuiet, HasPut, HasTaken, HasTurned, IsTurn, PutsNothing, adds, goes_on}
+use Rattle.lab_workers.specs.Workers.{SchedChair, is_halt, owed, sched_entries}
+use Rattle.lab_workers.proofs.Holdings.{has-put, knows-put, puts-nothing, sees-put}
+use Rattle.lab_workers.proofs.Owing.{owes-job, owes-jumps}
 
 -- nothing was added
 pub adds-none : (who : ℕ) (value : SchedValue) → value ≡ adds who [] value
@@ -135,6 +136,7 @@ module _ (who : ℕ) (old : SchedValue) (given : Next Kit) (new : SchedValue) (a
           acts = map Jumped a.1 ++ Took (name_of job) ∷ [];
           went = a.2 ∙ adds-job who a.1 (name_of job) old;
           quiet = quiet-job new.session new.history a.1 (name_of job);
+          owes = λ own. owes-job a.1 (name_of job) own ∙ ap (λ (n : JobName). owed own ++ n ∷ []) (sym named);
           lawful = known.lawful;
           turn_is = (subst L (sym named) (old.history ++ jumps who a.1, ended), has);
         }
@@ -147,6 +149,7 @@ module _ (who : ℕ) (old : SchedValue) (given : Next Kit) (new : SchedValue) (a
         acts = [];
         went = a.4 ∙ adds-none who old;
         quiet = quiet-jumps new.session new.history [];
+        owes = owes-jumps [];
         lawful = known.lawful;
         turn_is = tt;
       }
@@ -159,6 +162,7 @@ module _ (who : ℕ) (old : SchedValue) (given : Next Kit) (new : SchedValue) (a
         acts = map Jumped a.1;
         went = a.2 ∙ adds-jumps who a.1 old;
         quiet = quiet-jumps new.session new.history a.1;
+        owes = owes-jumps a.1;
         lawful = known.lawful;
         turn_is = (ap (λ (v : SchedValue). halted_by v.history) a.2 ∙ (still-going who a.1 old.history ∙ a.0), a.3);
       }
@@ -171,6 +175,7 @@ module _ (who : ℕ) (old : SchedValue) (given : Next Kit) (new : SchedValue) (a
         acts = [];
         went = a.1 ∙ adds-none who old;
         quiet = quiet-jumps new.session new.history [];
+        owes = owes-jumps [];
         lawful = known.lawful;
         turn_is = ap (λ (v : SchedValue). halted_by v.history) a.1 ∙ a.0;
       }
@@ -196,11 +201,25 @@ has-turned c d e lost was value now who session t own held same puts is known be
         quiet = (let T : (p : Session × List SchedEntry) → Type 0 = λ p. AreQuiet p.0 p.1 turned.acts in
             subst T (λ i. (kept i, seen i)) turned.quiet);
       };
+      owes = ap owed put.own ∙ turned.owes c.own;
       lawful = (let T : (p : Session × List SchedEntry) → Type 0 = λ p. IsLawful p.0 p.1 in subst T (λ i. (kept i, seen i)) turned.lawful);
       turn_is =
           (let T : (p : Session × List SchedEntry × ℕ) → Type 0 = λ p. IsTurnIn p.0 p.1 p.2 t in
           subst T (λ i. (kept i, seen i, (own ∙ sym put.same.1) i)) turned.turn_is);
     }
+
+-- a chair that owed nothing owes what it found
+pub turned-owes : (session : Session) (t : Turn) (c e : SchedChair) → HasTurned session t c e → owed c.own ≡ [] → owed e.own ≡ job_in t
+turned-owes session t c e turned none = turned.owes ∙ ap (λ (jobs : List JobName). jobs ++ job_in t) none
+
+-- for want of memory it put nothing
+pub has-looked : (c d e : SchedChair) (lost : List ℕ) (was value now : SchedValue) (who : ℕ) (session : Session)
+    → who ≡ c.number → d ≡ holding (losing c lost) (booked_acts was.history) → value ≡ was → Puts d (booked_acts now.history) e
+    → was.session ≡ session → IsSched value → IsPrefix c.seen (booked_acts was.history) → acts_of c.number (booked_acts was.history) ≡ c.own
+    → now ≡ value → PutsNothing c e
+has-looked c d e lost was value now who session own held same puts is known begins knows nothing =
+    puts-nothing session was.history c e
+    (has-put c d e lost was value now who [] own held same (nothing ∙ adds-none who value) puts session is (subst IsSched same known) begins knows)
 
 -- a job that the chair found it has taken
 pub taken-turn : (session : Session) (task : Task) (c e : SchedChair) → HasTurned session (turn.Job task) c e → HasTaken session (job_of task) e

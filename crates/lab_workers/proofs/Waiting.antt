@@ -202,6 +202,7 @@ module _ (w : WorkerValue) (cores : List CoreChair) (all : HaveWaited w.cores co
           (each-get (IsClosed w.number) w.cores n was.0 r.closed was.1));
       tied = λ pipeline chair at. let was = all.each pipeline chair at in tied-waited session pipeline was.0 chair was.2 (r.tied pipeline was.0 was.1);
       judged = r.judged;
+      owes = r.owes;
     };
     halts_are = refl;
   }

@@ -5,6 +5,7 @@ pub mod Turns
 pub mod Reports
 pub mod Stepping
 pub mod Idling
+pub mod Leaving
 pub mod Rounds
 pub use Rattle.stage_work.specs.Acts
 pub use Rattle.stage_work.specs.Finished

@@ -1,28 +1,33 @@
 -- What a worker comes to by one round, and by many.
-use Rattle.std.specs.Prelude.{◌≡◌, Option, Some, None, IsTrue}
+use Rattle.std.specs.Prelude.{◌≡◌, List, [], true, Option, Some, None, IsTrue}
 use Rattle.exp_model.specs.declared.session.Session.{Session}
+use Rattle.sched_state.specs.declared.entry.JobName.{JobName}
 use Rattle.sched_state.specs.Lawful.{halted_by, state_after}
 use Rattle.sched_state.specs.Picks.{is_over}
 use Rattle.lab_workers.specs.declared.desks.Desks.{Desks}
 use Rattle.lab_workers.specs.declared.worker.WorkEnd.{WorkEnd}
 use Rattle.lab_workers.specs.declared.worker.WorkEnd.TheVariants.{Finished, Stopped, Memory}
-use Rattle.lab_workers.specs.Workers.{IsAtRest, IsLater, IsWorkerAt, SchedChair, WorkerValue, halts, sched_entries}
+use Rattle.lab_workers.specs.Workers.{IsAtRest, IsLater, IsWorkerAt, SchedChair, StandsWith, WorkerValue, halts, sched_entries}
 
 -- it is the same worker at the same desks, and has seen and put more at the scheduler's
 pub record GoesOn (desks : Desks) (old new : WorkerValue) : Type 0 where
   pub at : IsWorkerAt desks new
   pub later : IsLater old new
 
--- where it was between two jobs, it is again; and it has put no halt
-pub record KeepsRest (session : Session) (old new : WorkerValue) : Type 0 where
-  pub rest : IsAtRest session old → IsAtRest session new
+-- where it stood with these jobs, it has come to this; and it has put no halt
+pub record ComesTo (session : Session) (jobs : List JobName) (This : WorkerValue → Type 0) (old new : WorkerValue) : Type 0 where
+  pub rest : StandsWith session jobs old → This new
   pub halts_are : halts new.sched ≡ halts old.sched
 
--- how a worker ends: nothing is left to do and nobody halted
--- the scheduler, or it is halted. Want of memory is no such end
+-- where it was between two jobs, it is again; and it has put no halt
+abbrev pub KeepsRest : Session → WorkerValue → WorkerValue → Type 0
+KeepsRest session old new = ComesTo session [] (IsAtRest session) old new
+
+-- how a worker ends: it has taken the scheduler, and nothing is left to do and
+-- nobody halted it, or it is halted. Want of memory is no such end
 abbrev pub IsEnd : Session → SchedChair → WorkEnd → Type 0
-IsEnd session chair Finished = (halted_by (sched_entries chair.seen) ≡ None) × IsTrue (is_over (state_after session (sched_entries chair.seen)))
-IsEnd session chair (Stopped by) = halted_by (sched_entries chair.seen) ≡ Some by
+IsEnd session chair Finished = (chair.won ≡ true) × (halted_by (sched_entries chair.seen) ≡ None) × IsTrue (is_over (state_after session (sched_entries chair.seen)))
+IsEnd session chair (Stopped by) = (chair.won ≡ true) × (halted_by (sched_entries chair.seen) ≡ Some by)
 IsEnd session chair Memory = ⊥
 
 -- if it has ended, so

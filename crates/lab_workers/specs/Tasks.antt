@@ -1,5 +1,5 @@
 -- The jobs that a worker takes.
-use Rattle.std.specs.Prelude.{◌≡◌, ℕ, List, Some, None, IsTrue}
+use Rattle.std.specs.Prelude.{◌≡◌, ℕ, List, [], ◌∷◌, Some, None, IsTrue}
 use Rattle.exp_runs.specs.Keys.{run_of}
 use Rattle.exp_model.specs.declared.session.Session.{Session}
 use Rattle.sched_state.specs.declared.entry.JobName.{JobName}
@@ -43,6 +43,11 @@ IsTaskIn session sched (task.Analyze rid) = Unit {0}
 -- the history ends with the taking of the job by this chair
 abbrev pub IsTakenLast : (who : ℕ) → JobName → List SchedEntry → Type 0
 IsTakenLast who job sched = (before : List SchedEntry) × (sched ≡ and_takes before who job)
+
+-- the job that a worker found
+abbrev pub job_in : Turn → List JobName
+job_in (turn.Job it) = job_of it ∷ []
+job_in other = []
 
 -- what a worker found, where this is the scheduler's history then
 abbrev pub IsTurnIn : Session → List SchedEntry → (who : ℕ) → Turn → Type 0

@@ -1,12 +1,13 @@
 -- What one holding of the scheduler leaves to a chair.
-use Rattle.std.specs.Prelude.{◌≡◌, ℕ, List, [], ◌++◌, filter, map}
+use Rattle.std.specs.Prelude.{◌≡◌, ℕ, List, [], ◌∷◌, ◌++◌, true, filter, map, Option, Some, None}
 use mathlib.Core.List.{IsPrefix}
 use Rattle.desk_rule.specs.Histories.{Each, acts_of}
 use Rattle.exp_model.specs.declared.session.Session.{Session}
 use Rattle.sched_state.specs.declared.entry.JobName.{JobName}
 use Rattle.sched_state.specs.declared.entry.SchedAct.{SchedAct}
+use Rattle.sched_state.specs.declared.entry.SchedAct.TheVariants.{Halted}
 use Rattle.sched_state.specs.declared.entry.SchedEntry.{SchedEntry}
-use Rattle.sched_state.specs.Lawful.{IsLawful}
+use Rattle.sched_state.specs.Lawful.{IsLawful, halted_by}
 use Rattle.sched_core.specs.Booked.{booked_acts}
 use Rattle.sched_core.specs.Calls.{entry_of}
 use Rattle.sched_core.specs.Scheds.{SchedValue}
@@ -14,8 +15,8 @@ use Rattle.stage_work.specs.Judged.{IsJudged}
 use Rattle.stage_work.specs.Ties.{reports_of}
 use Rattle.desk_kernels.specs.Chairs.{IsSameChair, KnowsItsOwn}
 use Rattle.lab_workers.specs.declared.tasks.Turn.{Turn}
-use Rattle.lab_workers.specs.Tasks.{IsTakenLast, IsTurnIn}
-use Rattle.lab_workers.specs.Workers.{SchedChair, is_halt, sched_entries}
+use Rattle.lab_workers.specs.Tasks.{IsTakenLast, IsTurnIn, job_in}
+use Rattle.lab_workers.specs.Workers.{SchedChair, is_halt, owed, sched_entries}
 
 -- the history goes on by these acts of the chair
 abbrev pub goes_on : List SchedEntry → (who : ℕ) → List SchedAct → List SchedEntry
@@ -38,6 +39,7 @@ pub record HasPut (session : Session) (found : List SchedEntry) (acts : List Sch
   pub later : IsPrefix old.seen (booked_acts found)
   pub known : acts_of old.number (booked_acts found) ≡ old.own
   pub same : IsSameChair old new
+  pub won : new.won ≡ true
   pub seen : new.seen ≡ booked_acts (goes_on found old.number acts)
   pub own : new.own ≡ old.own ++ acts
 
@@ -55,17 +57,39 @@ pub record PutsQuietly (session : Session) (old new : SchedChair) : Type 0 where
   pub put : HasPut session found acts old new
   pub quiet : AreQuiet session (sched_entries new.seen) acts
 
+-- it put such acts, by which it reported the job, if that is all that it had to report
+pub record ReportsQuietly (session : Session) (job : JobName) (old new : SchedChair) : Type 0 where
+  pub quietly : PutsQuietly session old new
+  pub lands : owed old.own ≡ job ∷ [] → owed new.own ≡ []
+
+-- the chair is the same and has put nothing; it may have seen more
+pub record PutsNothing (old new : SchedChair) : Type 0 where
+  pub follows : Follows old new
+  pub own : new.own ≡ old.own
+  pub knows : KnowsItsOwn old → KnowsItsOwn new
+
+-- a halt is due where nobody halted the scheduler
+abbrev pub halt_due : Option ℕ → List SchedAct
+halt_due None = Halted ∷ []
+halt_due (Some by) = []
+
+-- the chair put a halt, where nobody had halted the scheduler that it found
+abbrev pub HasHalted : Session → SchedChair → SchedChair → Type 0
+HasHalted session old new = (found : List SchedEntry) × HasPut session found (halt_due (halted_by found)) old new
+
 -- the scheduler's history went on by such acts of the chair, and this is what the chair found
 pub record IsTurn (who : ℕ) (turn : Turn) (old new : SchedValue) : Type 0 where
   pub acts : List SchedAct
   pub went : new ≡ adds who acts old
   pub quiet : AreQuiet new.session new.history acts
+  pub owes : (own : List SchedAct) → owed (own ++ acts) ≡ owed own ++ job_in turn
   pub lawful : IsLawful new.session new.history
   pub turn_is : IsTurnIn new.session new.history who turn
 
 -- the same of the chair, which knows all that stands in the history
 pub record HasTurned (session : Session) (turn : Turn) (old new : SchedChair) : Type 0 where
   pub quietly : PutsQuietly session old new
+  pub owes : owed new.own ≡ owed old.own ++ job_in turn
   pub lawful : IsLawful session (sched_entries new.seen)
   pub turn_is : IsTurnIn session (sched_entries new.seen) new.number turn
 

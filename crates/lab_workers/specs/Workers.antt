@@ -1,5 +1,6 @@
 -- A worker, its chairs, and what it keeps between two jobs.
-use Rattle.std.specs.Prelude.{◌≡◌, ℕ, Bool, true, false, List, filter, length, map, slice_get, Some, IsTrue}
+use Rattle.std.specs.Prelude.{◌≡◌, ◌⊎◌, ℕ, Bool, true, false, not, List, [], ◌∷◌, ◌++◌, filter, fold, length, map}
+use Rattle.std.specs.Prelude.{slice_get, Option, Some, None, IsTrue}
 use mathlib.Core.List.{IsPrefix}
 use Rattle.desk.specs.Seated.{Opened, Seated}
 use Rattle.desk_rule.specs.Histories.{Each}
@@ -7,9 +8,12 @@ use Rattle.rtio_core.specs.declared.data.Config.{Config}
 use Rattle.rtio_core.specs.Entries.{open_session}
 use Rattle.exp_model.specs.declared.session.Session.{Session}
 use Rattle.exp_model.specs.Sessions.{is_session}
+use Rattle.sched_state.specs.declared.entry.JobName.{JobName}
 use Rattle.sched_state.specs.declared.entry.SchedAct.{SchedAct}
-use Rattle.sched_state.specs.declared.entry.SchedAct.TheVariants.{Halted}
+use Rattle.sched_state.specs.declared.entry.SchedAct.TheVariants.{Halted, Took}
 use Rattle.sched_state.specs.declared.entry.SchedEntry.{SchedEntry}
+use Rattle.sched_laws.specs.Workers.{reported}
+use Rattle.sched_core.specs.Calls.{same_job}
 use Rattle.stage_work.specs.Judged.{IsJudged}
 use Rattle.stage_work.specs.Settings.{config_at}
 use Rattle.stage_work.specs.Ties.{AreTied}
@@ -58,14 +62,33 @@ IsTiedAt session w pipeline chair =
 abbrev pub IsClosed : (number : ℕ) → CoreChair → Type 0
 IsClosed number chair = (rid : ℕ) → open_session (core_entries chair.seen) ≡ Some (number, rid) → ⊥
 
--- Between two jobs: what a chair has seen has just the acts of its own that it put; no session of the worker is open on
--- a core; on each core it has done just what it reported; and each source that it reported was judged rightly
-pub record IsAtRest (session : Session) (w : WorkerValue) : Type 0 where
+-- some jobs without this one
+abbrev pub without : Option JobName → List JobName → List JobName
+without None jobs = jobs
+without (Some job) jobs = filter (λ (other : JobName). not (same_job other job)) jobs
+
+-- the jobs that a chair has to report, after one act more: one that it takes comes last, and one that it reports leaves
+abbrev pub owed_after : List JobName → SchedAct → List JobName
+owed_after jobs (Took job) = jobs ++ job ∷ []
+owed_after jobs act = without (reported act) jobs
+
+-- those that a chair of these acts has taken and not reported since, in order
+abbrev pub owed : List SchedAct → List JobName
+owed acts = fold owed_after [] acts
+
+-- The worker has taken these jobs and not reported them. Else: what a chair has seen has just the acts of its own that it put; no session
+-- of the worker is open on a core; on each core it has done just what it reported; and each source that it reported was judged rightly
+pub record StandsWith (session : Session) (jobs : List JobName) (w : WorkerValue) : Type 0 where
   pub sched_own : KnowsItsOwn w.sched
   pub core_own : Each KnowsItsOwn w.cores
   pub closed : Each (IsClosed w.number) w.cores
   pub tied : (pipeline : ℕ) (chair : CoreChair) → slice_get w.cores pipeline ≡ Some chair → IsTiedAt session w pipeline chair
   pub judged : Each (IsJudged session (sched_entries w.sched.seen)) w.sched.own
+  pub owes : owed w.sched.own ≡ jobs
+
+-- between two jobs it has reported each job that it took
+abbrev pub IsAtRest : Session → WorkerValue → Type 0
+IsAtRest session w = StandsWith session [] w
 
 -- it is the same worker, and has seen and put more at the scheduler's desk
 pub record IsLater (old new : WorkerValue) : Type 0 where
@@ -80,3 +103,7 @@ is_halt act = false
 -- the halts that a chair put
 abbrev pub halts : SchedChair → List SchedAct
 halts chair = filter is_halt chair.own
+
+-- it has put at most one halt more
+abbrev pub HaltsOnce : SchedChair → SchedChair → Type 0
+HaltsOnce old new = (halts new ≡ halts old) ⊎ (halts new ≡ halts old ++ Halted ∷ [])

@@ -3,7 +3,7 @@
 ghost use Rattle.std.specs.Prelude.{IsSome};
 ghost use Rattle.sched_state.specs.Lawful.{halted_by};
 ghost use Rattle.desk_kernels.specs.Chairs.{IsAt};
-ghost use Rattle.lab_workers.specs.Turns.{Follows};
+ghost use Rattle.lab_workers.specs.Turns.{HasHalted};
 ghost use Rattle.lab_workers.specs.Workers.{AreDesksOf, sched_entries};
 
 use crate::desks::Desks;
@@ -17,11 +17,13 @@ use std::sync::Wait;
 pub(crate) fn halt<R: Wait>(rt: &R, alloc: Global, desks: &Desks, chair: &mut Chair<Sched<Kit>>)
     requires desks { AreDesksOf desks.now }
     requires at { IsAt desks.now.sched chair.old }
-    ensures follows { Follows chair.old chair.new }
+    ensures halts { HasHalted desks.now.session chair.old chair.new }
     ensures halted { IsSome (halted_by (sched_entries chair.new.seen)) }
 {
     let who = chair.number();
     let mut held = desks.sched.take(rt, chair);
-    held.value().stop(alloc, who);
+    let sched = held.value();
+    let _known = sched.history();
+    sched.stop(alloc, who);
     desks.sched.put(chair, held);
 }

@@ -5,7 +5,7 @@ ghost use Rattle.sched_core.specs.Calls.{with_entry};
 ghost use Rattle.stage_work.specs.Jobs.{Flies};
 ghost use Rattle.desk_kernels.specs.Chairs.{IsAt};
 ghost use Rattle.lab_workers.specs.Reports.{HasTold, IsRight, act_told, job_told};
-ghost use Rattle.lab_workers.specs.Turns.{Follows, HasTaken};
+ghost use Rattle.lab_workers.specs.Turns.{Follows, HasTaken, PutsNothing};
 ghost use Rattle.lab_workers.specs.Workers.{AreDesksOf, sched_entries};
 
 use crate::desks::Desks;
@@ -31,6 +31,7 @@ pub(crate) fn tell<R: Wait>(
     requires taken { HasTaken desks.now.session (job_told report) chair.old }
     requires right { IsRight desks.now.session (sched_entries chair.old.seen) report }
     ensures told { OnOk result (HasTold desks.now.session report chair.old chair.new) }
+    ensures untold { OnErr result (PutsNothing chair.old chair.new) }
     ensures follows { Follows chair.old chair.new }
 {
     let who = chair.number();

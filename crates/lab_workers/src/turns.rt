@@ -1,6 +1,6 @@
 // A worker's turn at the scheduler's desk.
 
-ghost use Rattle.std.specs.Prelude.{◌≡◌, List, IfOk};
+ghost use Rattle.std.specs.Prelude.{◌≡◌, List, IfOk, OnErr};
 ghost use Rattle.sched_state.specs.declared.entry.SchedAct.{SchedAct};
 ghost use Rattle.sched_core.specs.Calls.{IsJobFor, name_of};
 ghost use Rattle.sched_core.specs.Scheds.{IsSched, sched_state};
@@ -8,7 +8,7 @@ ghost use Rattle.lab_kits.specs.Kits.{KitCall, KitText, kit_source};
 ghost use Rattle.stage_work.specs.Jobs.{Flies};
 ghost use Rattle.desk_kernels.specs.Chairs.{IsAt};
 ghost use Rattle.lab_workers.specs.Tasks.{IsTaskIn, job_of};
-ghost use Rattle.lab_workers.specs.Turns.{Follows, HasTurned, IsTurn, adds};
+ghost use Rattle.lab_workers.specs.Turns.{Follows, HasTurned, IsTurn, PutsNothing, adds};
 ghost use Rattle.lab_workers.specs.Workers.{AreDesksOf};
 
 use crate::desks::Desks;
@@ -30,6 +30,7 @@ pub(crate) fn next_turn<R: Wait>(
     requires desks { AreDesksOf desks.now }
     requires at { IsAt desks.now.sched chair.old }
     ensures turn { IfOk result (λ turn. HasTurned desks.now.session turn chair.old chair.new) }
+    ensures err { OnErr result (PutsNothing chair.old chair.new) }
     ensures follows { Follows chair.old chair.new }
 {
     let who = chair.number();
@@ -43,6 +44,7 @@ pub(crate) fn next_turn<R: Wait>(
 fn find_turn(alloc: Global, sched: &mut Sched<Kit>, who: u32) -> Result<Turn, AllocError>
     ensures known { IsSched sched.old }
     ensures turn { IfOk result (λ turn. IsTurn who turn sched.old sched.new) }
+    ensures err { OnErr result (sched.new ≡ sched.old) }
     ensures went { (acts : List SchedAct) × (sched.new ≡ adds who acts sched.old) }
 {
     let _before = sched.history();

@@ -3,11 +3,12 @@
 mod rounds;
 mod stepping;
 
-ghost use Rattle.std.specs.Prelude.{◌≡◌, ◌≢◌, ℕ, None, Some, IsSome, IsTrue};
+ghost use Rattle.std.specs.Prelude.{◌≡◌, ◌≢◌, ℕ, true, None, Some, IsSome, IsTrue};
 ghost use Rattle.desk_rule.specs.Histories.{Each};
 ghost use Rattle.sched_state.specs.Lawful.{halted_by, state_after};
 ghost use Rattle.sched_state.specs.Picks.{is_over};
-ghost use Rattle.lab_workers.specs.Workers.{AreDesksOf, halts, IsAtRest, IsFree, IsLater, IsWorkerAt, sched_entries};
+ghost use Rattle.lab_workers.specs.Leaving.{IsLeft};
+ghost use Rattle.lab_workers.specs.Workers.{AreDesksOf, HaltsOnce, halts, IsAtRest, IsFree, IsLater, IsWorkerAt, sched_entries};
 
 use crate::desks::Desks;
 use crate::halting::halt;
@@ -93,15 +94,22 @@ impl Worker {
         // It is the same worker at the same desks, and has seen and put more at the scheduler's.
         ensures at { IsWorkerAt desks.now self.new }
         ensures later { IsLater self.old self.new }
-        // Where it had done on each core just what it reported, and no session of its own was open, this is so again, unless memory ran out.
+        // It has asked the scheduler.
+        ensures asked { self.new.sched.won ≡ true }
+        // Where it had reported each job that it took, had done on each core just what it reported, and no session of its own was open, this
+        // is so again, unless memory ran out.
         ensures rest { result ≢ WorkEnd.Memory → IsAtRest desks.now.session self.old → IsAtRest desks.now.session self.new }
+        // Where memory ran out all is so still but for one job at most, which it took last and hasn't reported: of a kernel's step there
+        // may be just its session besides, up to some request or the whole.
+        ensures left { result ≡ WorkEnd.Memory → IsAtRest desks.now.session self.old → IsLeft desks.now self.new }
         // No arrival is left, every run has ended, and nobody has halted the scheduler.
         ensures finished { result ≡ WorkEnd.Finished → (halted_by (sched_entries self.new.sched.seen) ≡ None)
             × IsTrue (is_over (state_after desks.now.session (sched_entries self.new.sched.seen))) }
         // This chair has halted the scheduler.
         ensures stopped { (by : ℕ) → result ≡ WorkEnd.Stopped by → halted_by (sched_entries self.new.sched.seen) ≡ Some by }
-        // Where memory ran out the scheduler is halted; else the worker has put no halt.
+        // Where memory ran out the scheduler is halted, by one halt of the worker's at most; else the worker has put no halt.
         ensures memory { result ≡ WorkEnd.Memory → IsSome (halted_by (sched_entries self.new.sched.seen)) }
+        ensures halted { result ≡ WorkEnd.Memory → HaltsOnce self.old.sched self.new.sched }
         ensures halts { result ≢ WorkEnd.Memory → halts self.new.sched ≡ halts self.old.sched }
     {
         match self.work_on(rt, alloc, desks, gate) {

@@ -1,10 +1,11 @@
 // The rounds of a worker.
 
-ghost use Rattle.std.specs.Prelude.{IfOk, OnOk};
-ghost use Rattle.lab_workers.specs.Rounds.{GoesOn, HasRound, HasWorked, KeepsRest};
+ghost use Rattle.std.specs.Prelude.{[], ◌∷◌, IfOk, OnErr, OnOk};
+ghost use Rattle.lab_workers.specs.Leaving.{IsLeft, IsLeftWith};
+ghost use Rattle.lab_workers.specs.Rounds.{ComesTo, GoesOn, HasRound, HasWorked};
 ghost use Rattle.lab_workers.specs.Tasks.{IsTaskIn, job_of};
 ghost use Rattle.lab_workers.specs.Turns.{HasTaken};
-ghost use Rattle.lab_workers.specs.Workers.{AreDesksOf, IsWorkerAt, sched_entries};
+ghost use Rattle.lab_workers.specs.Workers.{AreDesksOf, IsAtRest, IsWorkerAt, sched_entries};
 
 use super::{WorkEnd, Worker};
 use crate::desks::Desks;
@@ -30,6 +31,7 @@ impl Worker {
         requires at { IsWorkerAt desks.now self.old }
         ensures goes { GoesOn desks.now self.old self.new }
         ensures worked { IfOk result (λ end. HasWorked desks.now.session end self.old self.new) }
+        ensures left { OnErr result (ComesTo desks.now.session [] (IsLeft desks.now) self.old self.new) }
     {
         for _ in rt.forever() {
             if let Some(end) = self.round(rt, alloc, desks, gate)? {
@@ -51,6 +53,7 @@ impl Worker {
         requires at { IsWorkerAt desks.now self.old }
         ensures goes { GoesOn desks.now self.old self.new }
         ensures round { IfOk result (λ end. HasRound desks.now.session end self.old self.new) }
+        ensures left { OnErr result (ComesTo desks.now.session [] (IsLeft desks.now) self.old self.new) }
     {
         let turn = next_turn(rt, alloc, desks, &mut self.sched)?;
         match turn {
@@ -82,7 +85,8 @@ impl Worker {
         requires taken { HasTaken desks.now.session (job_of task) self.old.sched }
         requires is { IsTaskIn desks.now.session (sched_entries self.old.sched.seen) task }
         ensures goes { GoesOn desks.now self.old self.new }
-        ensures keeps { OnOk result (KeepsRest desks.now.session self.old self.new) }
+        ensures rests { OnOk result (ComesTo desks.now.session (job_of task ∷ []) (IsAtRest desks.now.session) self.old self.new) }
+        ensures left { OnErr result (ComesTo desks.now.session (job_of task ∷ []) (IsLeftWith desks.now task) self.old self.new) }
     {
         match task {
             Task::Prepare { rid, run } => {

@@ -1,14 +1,16 @@
 // Steps of runs.
 
-ghost use Rattle.std.specs.Prelude.{◌<◌, length, IfOk, OnOk};
+ghost use Rattle.std.specs.Prelude.{◌<◌, [], ◌∷◌, length, IfOk, OnErr, OnOk};
 ghost use Rattle.sched_state.specs.declared.entry.JobName.TheVariants as name;
 ghost use Rattle.desk_kernels.specs.Meant.{TakesArguments};
 ghost use Rattle.lab_kits.specs.Kits.{program_in};
-ghost use Rattle.lab_workers.specs.Rounds.{GoesOn, KeepsRest};
-ghost use Rattle.lab_workers.specs.Stepping.{HasDone, MayStart, RunsAt};
+ghost use Rattle.lab_workers.specs.declared.tasks.Task.TheVariants.{Step};
+ghost use Rattle.lab_workers.specs.Leaving.{IsLeftWith};
+ghost use Rattle.lab_workers.specs.Rounds.{ComesTo, GoesOn};
+ghost use Rattle.lab_workers.specs.Stepping.{CutsAt, HasDone, IsCutOff, MayStart, RunsAt};
 ghost use Rattle.lab_workers.specs.Tasks.{IsStepIn};
 ghost use Rattle.lab_workers.specs.Turns.{HasTaken};
-ghost use Rattle.lab_workers.specs.Workers.{AreDesksOf, IsWorkerAt, sched_entries};
+ghost use Rattle.lab_workers.specs.Workers.{AreDesksOf, IsAtRest, IsWorkerAt, sched_entries};
 
 use super::Worker;
 use crate::desks::Desks;
@@ -38,7 +40,8 @@ impl Worker {
         requires taken { HasTaken desks.now.session (name.Step task.rid task.pos) self.old.sched }
         requires is { IsStepIn desks.now.session (sched_entries self.old.sched.seen) task }
         ensures goes { GoesOn desks.now self.old self.new }
-        ensures keeps { OnOk result (KeepsRest desks.now.session self.old self.new) }
+        ensures rests { OnOk result (ComesTo desks.now.session (name.Step task.rid task.pos ∷ []) (IsAtRest desks.now.session) self.old self.new) }
+        ensures left { OnErr result (ComesTo desks.now.session (name.Step task.rid task.pos ∷ []) (IsLeftWith desks.now (Step task)) self.old self.new) }
     {
         let StepTask {
             rid,
@@ -76,6 +79,7 @@ impl Worker {
         requires start { MayStart kit.now start }
         ensures goes { GoesOn desks.now self.old self.new }
         ensures done { IfOk result (λ ran. HasDone desks.now pipeline kit.now start self.old self.new ran) }
+        ensures cut { OnErr result (IsCutOff desks.now pipeline kit.now start self.old self.new) }
     {
         match start {
             Some(of) => {
@@ -103,6 +107,7 @@ impl Worker {
         requires arguments { TakesArguments (program_in kit.now) of.function of.args }
         ensures goes { GoesOn desks.now self.old self.new }
         ensures ran { IfOk result (λ result. RunsAt desks.now pipeline kit.now of self.old self.new result) }
+        ensures cut { OnErr result (CutsAt desks.now pipeline kit.now of self.old self.new) }
     {
         let place = pipeline as usize;
         let rid = of.rid;

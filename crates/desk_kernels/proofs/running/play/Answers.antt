@@ -3,8 +3,8 @@ use Rattle.std.specs.Prelude.{Option}
 use Rattle.rtio_types.specs.declared.outcome.Outcome.{Outcome}
 use Rattle.lab_kernels.proofs.Playing.{so-far-first, so-far-nearer, so-far-next}
 use Rattle.desk_kernels.specs.Holdings.{core_as_seen}
-use Rattle.desk_kernels.proofs.Held.{goes-none, goes-on}
-use Rattle.desk_kernels.proofs.Played.{LeadsOn, leads-on, played-last, under-way-at}
+use Rattle.desk_kernels.proofs.Held.{goes-none, goes-on, on-err}
+use Rattle.desk_kernels.proofs.Played.{LeadsOn, leads-on, played-last, played-left, under-way-at}
 use Rattle.desk_kernels.proofs.running.play.Goals as goal
 
 pub loop-outcome-init : goal.loop-outcome-init
@@ -23,6 +23,12 @@ go_on-requires-clause-under_way g c =
 pub returns-in_err-outcome-clause-goes : goal.returns-in_err-outcome-clause-goes
 returns-in_err-outcome-clause-goes g c =
     goes-on c.args.desk.now c.args.chair.now c.loop-outcome.chair c.go_on.new.chair c.loop-outcome.invariant.1 c.go_on.ensures.goes
+
+pub returns-in_err-outcome-clause-left : goal.returns-in_err-outcome-clause-left
+returns-in_err-outcome-clause-left g c =
+    on-err c.from_residual.result _
+    (played-left c.args.desk.now c.args.chair.now c.args.cpu.now c.args.sets.now.items c.loop-outcome.chair c.loop-outcome.cpu c.loop-outcome.sets.items c.loop-outcome.invariant.0 c.loop-outcome.invariant.1
+    c.go_on.new.chair c.in_err-outcome.ensures.err)
 
 pub returns-in-Some-clause-goes : goal.returns-in-Some-clause-goes
 returns-in-Some-clause-goes g c =

@@ -8,7 +8,8 @@ use Rattle.core_cpu.specs.Moments.{Moment}
 use Rattle.lab_kernels.proofs.Whole.{IsBooted, is-booted, session_of}
 use Rattle.desk_kernels.specs.Sessions.{RunsCodeAt}
 use Rattle.desk_rule.proofs.Prefixes.{prefix_trans}
-use Rattle.desk_kernels.proofs.Played.{begins-at, ran-at}
+use Rattle.desk_kernels.proofs.Held.{on-err}
+use Rattle.desk_kernels.proofs.Played.{begins-at, left-at-start, left-later, ran-at}
 use Rattle.desk_kernels.proofs.running.run_function_at.Goals as goal
 
 pub play-requires-clause-begun : goal.play-requires-clause-begun
@@ -47,3 +48,25 @@ returns-in_err-outcome-clause-later g c =
 pub returns-clause-later : goal.returns-clause-later
 returns-clause-later g c =
     prefix_trans c.args.chair.now.seen c.start.new.chair.seen c.play.new.chair.seen c.start.ensures.goes.later c.play.ensures.goes.later
+
+pub returns-in_err-cpu-clause-left : goal.returns-in_err-cpu-clause-left
+returns-in_err-cpu-clause-left g c =
+    let fits : FitsSigned w64 c.in_ok-cursor.cursor = search rules in
+    let begun = c.in_ok-cursor.ensures.started in
+    on-err _ _
+    (left-at-start c.args.desk.now c.args.code.now c.args.of c.args.units c.args.chair.now c.start.new.chair c.in_ok-cursor.cursor begun
+    (subst (FitsSigned w64) begun.from fits))
+
+pub returns-in_err-outcome-clause-left : goal.returns-in_err-outcome-clause-left
+returns-in_err-outcome-clause-left g c =
+    let fits : FitsSigned w64 c.in_ok-cursor.cursor = search rules in
+    let same = to_z-of_z w64 c.in_ok-cursor.cursor fits in
+    let begun = c.in_ok-cursor.ensures.started in
+    let booted : IsBooted c.args.code.now c.args.of c.args.units begun.was c.in_ok-cpu.cpu =
+    is-booted c.args.code.now c.args.of c.args.units begun.was c.in_ok-cpu.cpu _ _ _ _ c.in_ok-cpu.ensures.code c.in_ok-cpu.ensures.begins c.in_ok-cpu.ensures.phase
+    (ap (λ (m : Moment). m.machine.units) (c.in_ok-cpu.ensures.first c.requires.entry.entry (search rules)))
+    (search rules) (search rules) (cc (same, begun.from)) (search rules) (subst (FitsSigned w64) (sym same) fits)
+    in
+    on-err _ _
+    (left-later c.args.desk.now c.args.code.now c.args.of c.args.units c.args.chair.now c.start.new.chair c.in_ok-cursor.cursor begun
+    c.play.new.chair c.play.ensures.goes c.in_ok-cpu.cpu c.new-sets.result.items booted (search rules) c.in_err-outcome.ensures.left)

@@ -1,8 +1,8 @@
 use Rattle.std.proofs.Common.{◌∙◌}
-use Rattle.std.proofs.lemmas.Result.{on_ok_weaker}
+use Rattle.std.proofs.lemmas.Result.{on_err_weaker, on_ok_weaker}
 use Rattle.lab_workers.specs.Reports.{act_told, job_told}
 use Rattle.lab_workers.proofs.Holdings.{follows-put, put-grew}
-use Rattle.lab_workers.proofs.Telling.{has-told, tell-flies, tell-right, told-or-not}
+use Rattle.lab_workers.proofs.Telling.{has-told, tell-flies, tell-right, told-or-not, untold}
 use Rattle.lab_workers.proofs.reporting.tell.Goals as goal
 
 -- the job flies still
@@ -48,3 +48,12 @@ returns-clause-follows g c =
     follows-put c.args.chair.now c.take-held.new.chair c.put.new.chair c.take-held.new.chair.lost c.take-held.result.value c.value-sched.result.now
     c.write_report-told.new.sched c.number-who.result went.0
     c.number-who.ensures c.take-held.ensures.held.0 c.value-sched.ensures.value went.1 c.put.ensures c.take-held.ensures.found.0
+
+pub returns-clause-untold : goal.returns-clause-untold
+returns-clause-untold g c =
+    on_err_weaker c.write_report-told.result
+    (untold c.args.desks.now.session c.args.chair.now c.take-held.result.value c.value-sched.result.now c.number-who.result
+    c.number-who.ensures c.value-sched.ensures.value (c.take-held.ensures.found.2 ∙ c.requires.desks.sched) c.history-known.ensures.sched
+    c.take-held.ensures.found.0 c.take-held.ensures.found.1
+    c.take-held.new.chair c.put.new.chair c.take-held.new.chair.lost c.write_report-told.new.sched c.take-held.ensures.held.0 c.put.ensures)
+    c.write_report-told.ensures.err

@@ -1,14 +1,18 @@
-use Rattle.std.proofs.Common.{◌≡◌, sym, ap, subst, ◌∙◌}
-use Rattle.std.proofs.lemmas.Result.{on_ok_weaker}
+use Rattle.std.proofs.Common.{◌≡◌, [], ◌∷◌, sym, ap, subst, ◌∙◌}
+use Rattle.std.proofs.lemmas.Result.{on_err_weaker, on_ok_weaker}
 use Rattle.stage_work.specs.DoesAs.{DoesAs}
 use Rattle.sched_state.specs.declared.entry.JobName.TheVariants as name
 use Rattle.lab_kits.specs.Kits.{program_in}
 use Rattle.lab_workers.specs.declared.tasks.Report.TheVariants as report
 use Rattle.lab_workers.specs.Reports.{HasTold, IsRight}
-use Rattle.lab_workers.specs.Rounds.{KeepsRest}
-use Rattle.lab_workers.specs.Turns.{HasTaken}
-use Rattle.lab_workers.specs.Workers.{SchedChair, WorkerValue, sched_entries}
+use Rattle.lab_workers.specs.declared.tasks.Task.TheVariants as task
+use Rattle.lab_workers.specs.Leaving.{IsLeftWith}
+use Rattle.lab_workers.specs.Rounds.{ComesTo}
+use Rattle.lab_workers.specs.Turns.{HasTaken, PutsNothing}
+use Rattle.lab_workers.specs.Workers.{IsAtRest, SchedChair, WorkerValue, sched_entries}
 use Rattle.lab_workers.proofs.Doing.{call-there, core-there, done-sched, keeps-step, may-start, pipeline-there, step-right}
+use Rattle.stage_work.proofs.Done.{on-err}
+use Rattle.lab_workers.proofs.Leaving.{cut-start, done-start, step-left, step-untold}
 use Rattle.lab_workers.proofs.Resting.{goes-trans}
 use Rattle.lab_workers.proofs.Rounds.{free-follows, goes-turn, sched-at}
 use Rattle.lab_workers.proofs.worker.Worker.do_step.Goals as goal
@@ -55,15 +59,36 @@ returns-clause-goes g c =
     (goes-turn c.args.desks.now _ c.run_step.new.self c.self.view_is c.in_ok-ran.ensures.goes.at c.tell.new.chair c.tell.ensures.follows)
 
 -- the step was done and reported
-pub returns-clause-keeps : goal.returns-clause-keeps
-returns-clause-keeps g c =
+pub returns-clause-rests : goal.returns-clause-rests
+returns-clause-rests g c =
     let does = subst (DoesAs (program_in c.args.task.kit)) c.code-does.ensures.kept c.code-does.ensures.does in
     let T : WorkerValue → Type 0 = λ v.
     HasTold c.args.desks.now.session (report.Stepped c.args.task.rid c.args.task.pos c.args.task.kit c.in_ok-ran.ran) v.sched c.tell.new.chair in
-    let K : WorkerValue → Type 0 = λ v. KeepsRest c.args.desks.now.session c.args.self.now (record v { sched = c.tell.new.chair }) in
+    let K : WorkerValue → Type 0 = λ v.
+    ComesTo c.args.desks.now.session (name.Step c.args.task.rid c.args.task.pos ∷ []) (IsAtRest c.args.desks.now.session) c.args.self.now (record v { sched = c.tell.new.chair }) in
     on_ok_weaker c.tell.result
     (λ told. subst K (sym c.self.view_is)
     (keeps-step c.args.desks.now c.requires.desks c.args.task.pipeline c.args.task.kit c.args.task.rid c.args.task.pos c.args.self.now c.run_step.new.self
     c.tell.new.chair does c.requires.taken c.args.task.step _ c.in_ok-ran.ran c.start_for-start.ensures c.in_ok-ran.ensures.done c.requires.is
     (subst T c.self.view_is told)))
     c.tell.ensures.told
+
+-- there was no memory for its report
+pub returns-clause-left : goal.returns-clause-left
+returns-clause-left g c =
+    let N : WorkerValue → Type 0 = λ v. PutsNothing v.sched c.tell.new.chair in
+    let K : WorkerValue → Type 0 = λ v.
+    ComesTo c.args.desks.now.session (name.Step c.args.task.rid c.args.task.pos ∷ []) (IsLeftWith c.args.desks.now (task.Step c.args.task)) c.args.self.now (record v { sched = c.tell.new.chair }) in
+    on_err_weaker c.tell.result
+    (λ untold. subst K (sym c.self.view_is)
+    (step-untold c.args.desks.now c.args.task _ c.args.self.now c.run_step.new.self c.start_for-start.ensures
+    (done-start c.args.desks.now c.args.task _ c.args.self.now c.run_step.new.self c.in_ok-ran.ran c.in_ok-ran.ensures.done) c.requires.is
+    c.tell.new.chair (subst N c.self.view_is untold)))
+    c.tell.ensures.untold
+
+-- or for the step
+pub returns-in_err-ran-clause-left : goal.returns-in_err-ran-clause-left
+returns-in_err-ran-clause-left g c =
+    on-err _ _
+    (step-left c.args.desks.now c.args.task _ c.args.self.now c.run_step.new.self c.start_for-start.ensures
+    (cut-start c.args.desks.now c.args.task _ c.args.self.now c.run_step.new.self c.in_err-ran.ensures.cut) c.requires.is)

@@ -1,14 +1,18 @@
-use Rattle.std.proofs.Common.{length, List, sym, ap, subst, ◌∙◌, drop}
+use Rattle.std.proofs.Common.{length, List, [], ◌∷◌, sym, ap, subst, ◌∙◌, drop}
 use Rattle.std.proofs.lemmas.List.{take_at}
 use Rattle.desk_rule.specs.Histories.{Each}
 use Rattle.desk_kernels.specs.Chairs.{CoreChair}
 use Rattle.lab_workers.specs.declared.tasks.Turn.TheVariants as turn
 use Rattle.lab_workers.specs.Idling.{AreAt, HaveWaited}
+use Rattle.lab_workers.specs.Leaving.{IsLeft}
 use Rattle.lab_workers.specs.Rounds.{GoesOn, KeepsRest}
-use Rattle.lab_workers.specs.Workers.{IsFree}
-use Rattle.lab_workers.proofs.Resting.{goes-trans, keeps-trans}
+use Rattle.lab_workers.specs.Tasks.{job_of}
+use Rattle.lab_workers.specs.Workers.{IsAtRest, IsFree}
+use Rattle.stage_work.proofs.Done.{on-err}
+use Rattle.lab_workers.proofs.Leaving.{comes-left, rests-left}
+use Rattle.lab_workers.proofs.Resting.{comes-from, comes-trans, goes-trans}
 use Rattle.lab_workers.proofs.Rounds.{cores-at, cores-count, free-follows, goes-idle, goes-turn, keeps-idle, keeps-turn, sched-at, turned-as}
-use Rattle.lab_workers.proofs.Turning.{taken-turn}
+use Rattle.lab_workers.proofs.Turning.{taken-turn, turned-owes}
 use Rattle.lab_workers.proofs.Waiting.{free-waited}
 use Rattle.lab_workers.proofs.worker.Worker.round.Goals as goal
 
@@ -85,13 +89,35 @@ returns-in_ok-do_task-in-Job-clause-goes g c =
     c.in_ok-do_task-in-Job.ensures.goes
 
 pub returns-in_ok-do_task-in-Job-clause-round : goal.returns-in_ok-do_task-in-Job-clause-round
-returns-in_ok-do_task-in-Job-clause-round g c = record {
-  keeps =
-      keeps-trans c.args.desks.now.session c.args.self.now _ c.do_task.new.self
-      (keeps-turn c.args.desks.now _ c.args.self.now c.self.view_is c.requires.at c.next_turn.new.chair c.in_ok-turn.ensures.turn.quietly)
-      c.in_ok-do_task-in-Job.ensures.keeps;
-  ends = tt;
-}
+returns-in_ok-do_task-in-Job-clause-round g c =
+    let turned =
+    turned-as c.args.desks.now.session c.in_ok-turn.turn (turn.Job c.in-Job.task) c.self.inside.sched c.next_turn.new.chair c.in-Job.is c.in_ok-turn.ensures.turn in
+    let jobs = job_of c.in-Job.task ∷ [] in
+    record {
+      keeps =
+          comes-trans c.args.desks.now.session [] jobs (IsAtRest c.args.desks.now.session) c.args.self.now _ c.do_task.new.self
+          (keeps-turn c.args.desks.now _ c.args.self.now c.self.view_is c.requires.at c.next_turn.new.chair turned.quietly [] jobs
+          (turned-owes c.args.desks.now.session (turn.Job c.in-Job.task) c.self.inside.sched c.next_turn.new.chair turned))
+          c.in_ok-do_task-in-Job.ensures.rests;
+      ends = tt;
+    }
+
+pub returns-in_err-do_task-in-Job-clause-left : goal.returns-in_err-do_task-in-Job-clause-left
+returns-in_err-do_task-in-Job-clause-left g c =
+    let turned =
+    turned-as c.args.desks.now.session c.in_ok-turn.turn (turn.Job c.in-Job.task) c.self.inside.sched c.next_turn.new.chair c.in-Job.is c.in_ok-turn.ensures.turn in
+    let jobs = job_of c.in-Job.task ∷ [] in
+    on-err _ _
+    (comes-trans c.args.desks.now.session [] jobs (IsLeft c.args.desks.now) c.args.self.now _ c.do_task.new.self
+    (keeps-turn c.args.desks.now _ c.args.self.now c.self.view_is c.requires.at c.next_turn.new.chair turned.quietly [] jobs
+    (turned-owes c.args.desks.now.session (turn.Job c.in-Job.task) c.self.inside.sched c.next_turn.new.chair turned))
+    (comes-left c.args.desks.now c.in-Job.task _ c.do_task.new.self c.in_err-do_task-in-Job.ensures.left))
+
+pub returns-in_err-turn-clause-left : goal.returns-in_err-turn-clause-left
+returns-in_err-turn-clause-left g c =
+    on-err _ _
+    (comes-from c.args.desks.now.session [] (IsLeft c.args.desks.now) _ c.args.self.now _ c.self.view_is
+    (rests-left c.args.desks.now _ c.next_turn.new.chair c.in_err-turn.ensures.err))
 
 pub returns-in-Idle-clause-goes : goal.returns-in-Idle-clause-goes
 returns-in-Idle-clause-goes g c =
@@ -111,11 +137,14 @@ returns-in-Idle-clause-round g c =
     let K : List CoreChair → Type 0 = λ cs.
     KeepsRest c.args.desks.now.session c.args.self.now (record { number = c.self.inside.number; sched = c.next_turn.new.chair; cores = cs }) in
     let H : List CoreChair → Type 0 = λ cs. HaveWaited cs c.let_all_tick.new.chairs in
+    let turned =
+    turned-as c.args.desks.now.session c.in_ok-turn.turn turn.Idle c.self.inside.sched c.next_turn.new.chair c.in-Idle.is c.in_ok-turn.ensures.turn in
     record {
       keeps =
           subst K (sym whole)
           (keeps-idle c.args.desks.now _ c.args.self.now c.self.view_is c.requires.at c.next_turn.new.chair c.let_all_tick.new.chairs
-          c.in_ok-turn.ensures.turn.quietly c.self.invariant.1 (subst H was c.let_all_tick.ensures));
+          turned.quietly (turned-owes c.args.desks.now.session turn.Idle c.self.inside.sched c.next_turn.new.chair turned)
+          c.self.invariant.1 (subst H was c.let_all_tick.ensures));
       ends = tt;
     }
 
@@ -124,21 +153,27 @@ returns-in-Over-clause-goes g c =
     goes-turn c.args.desks.now _ c.args.self.now c.self.view_is c.requires.at c.next_turn.new.chair c.in_ok-turn.ensures.follows
 
 pub returns-in-Over-clause-round : goal.returns-in-Over-clause-round
-returns-in-Over-clause-round g c = record {
-  keeps = keeps-turn c.args.desks.now _ c.args.self.now c.self.view_is c.requires.at c.next_turn.new.chair c.in_ok-turn.ensures.turn.quietly;
-  ends =
-      (turned-as c.args.desks.now.session c.in_ok-turn.turn turn.Over c.self.inside.sched c.next_turn.new.chair
-      c.in-Over.is c.in_ok-turn.ensures.turn).turn_is;
-}
+returns-in-Over-clause-round g c =
+    let turned =
+    turned-as c.args.desks.now.session c.in_ok-turn.turn turn.Over c.self.inside.sched c.next_turn.new.chair c.in-Over.is c.in_ok-turn.ensures.turn in
+    record {
+      keeps =
+          keeps-turn c.args.desks.now _ c.args.self.now c.self.view_is c.requires.at c.next_turn.new.chair turned.quietly [] []
+          (turned-owes c.args.desks.now.session turn.Over c.self.inside.sched c.next_turn.new.chair turned);
+      ends = (turned.quietly.put.won, turned.turn_is.0, turned.turn_is.1);
+    }
 
 pub returns-in-Stopped-clause-goes : goal.returns-in-Stopped-clause-goes
 returns-in-Stopped-clause-goes g c =
     goes-turn c.args.desks.now _ c.args.self.now c.self.view_is c.requires.at c.next_turn.new.chair c.in_ok-turn.ensures.follows
 
 pub returns-in-Stopped-clause-round : goal.returns-in-Stopped-clause-round
-returns-in-Stopped-clause-round g c = record {
-  keeps = keeps-turn c.args.desks.now _ c.args.self.now c.self.view_is c.requires.at c.next_turn.new.chair c.in_ok-turn.ensures.turn.quietly;
-  ends =
-      (turned-as c.args.desks.now.session c.in_ok-turn.turn (turn.Stopped c.in-Stopped.by) c.self.inside.sched c.next_turn.new.chair
-      c.in-Stopped.is c.in_ok-turn.ensures.turn).turn_is;
-}
+returns-in-Stopped-clause-round g c =
+    let turned =
+    turned-as c.args.desks.now.session c.in_ok-turn.turn (turn.Stopped c.in-Stopped.by) c.self.inside.sched c.next_turn.new.chair c.in-Stopped.is c.in_ok-turn.ensures.turn in
+    record {
+      keeps =
+          keeps-turn c.args.desks.now _ c.args.self.now c.self.view_is c.requires.at c.next_turn.new.chair turned.quietly [] []
+          (turned-owes c.args.desks.now.session (turn.Stopped c.in-Stopped.by) c.self.inside.sched c.next_turn.new.chair turned);
+      ends = (turned.quietly.put.won, turned.turn_is);
+    }

@@ -1,9 +1,10 @@
-use Rattle.std.proofs.Common.{◌≡◌, length, refl, sym, ap, ◌∙◌, arith}
-use Rattle.std.specs.Prelude.{Some, slice_get, slice_set}
+use Rattle.std.proofs.Common.{◌≡◌, length, refl, ap, arith}
+use Rattle.std.specs.Prelude.{Some, slice_get}
 use Rattle.std.proofs.lemmas.Option.{slice_get_read}
 use Rattle.lab_workers.specs.Workers.{IsFree, WorkerValue}
+use Rattle.stage_work.proofs.Done.{on-err}
 use Rattle.lab_workers.proofs.Resting.{each-get}
-use Rattle.lab_workers.proofs.Rounds.{cores-at, free-core, goes-core}
+use Rattle.lab_workers.proofs.Rounds.{cores-at, free-core, goes-core, uses-core}
 use Rattle.lab_workers.proofs.worker.Worker.run_kernel.Goals as goal
 
 pub index-requires : goal.index-requires
@@ -67,19 +68,20 @@ returns-clause-ran g c =
     let found : slice_get c.self.inside.cores.items c.args.pipeline ≡ Some c.index_mut.result.now =
     slice_get_read c.self.inside.cores.items (length c.self.inside.cores.items) c.args.pipeline c.index_mut.result.now refl
     (let there = c.requires.there in let same = ap (λ (v : WorkerValue). length v.cores) c.self.view_is in omega (arith, there, same)) c.index_mut.ensures.value in
-    record {
-      desk = c.index.result.now;
-      was = c.index_mut.result.now;
-      now = c.run_kernel_at.new.chair;
-      at =
-          slice_get_read c.args.desks.now.cores.items (length c.args.desks.now.cores.items) c.args.pipeline c.index.result.now refl
-          (let there = c.requires.there in let count = c.requires.at.count in omega (arith, there, count)) c.index.ensures;
-      found = sym (ap (λ (v : WorkerValue). slice_get v.cores c.args.pipeline) c.self.view_is) ∙ found;
-      leaves = ap (λ (v : WorkerValue). record v { cores = slice_set v.cores c.args.pipeline c.run_kernel_at.new.chair }) c.self.view_is;
-      number =
-          (each-get (IsFree c.self.inside.number) c.self.inside.cores.items c.args.pipeline c.index_mut.result.now c.self.invariant.1 found).0
-          ∙ ap (λ (v : WorkerValue). v.number) c.self.view_is;
-      same = c.in_ok-result.ensures.same;
-      knows = c.in_ok-result.ensures.knows;
-      ran = c.in_ok-result.ensures.kernel;
-    }
+    uses-core c.args.desks.now _ c.args.self.now c.self.view_is c.args.pipeline _ c.index.result.now c.index_mut.result.now c.run_kernel_at.new.chair
+    (slice_get_read c.args.desks.now.cores.items (length c.args.desks.now.cores.items) c.args.pipeline c.index.result.now refl
+    (let there = c.requires.there in let count = c.requires.at.count in omega (arith, there, count)) c.index.ensures)
+    found (each-get (IsFree c.self.inside.number) c.self.inside.cores.items c.args.pipeline c.index_mut.result.now c.self.invariant.1 found).0
+    c.in_ok-result.ensures.same c.in_ok-result.ensures.later c.in_ok-result.ensures.knows c.in_ok-result.ensures.kernel
+
+pub returns-in_err-result-clause-cut : goal.returns-in_err-result-clause-cut
+returns-in_err-result-clause-cut g c =
+    let found : slice_get c.self.inside.cores.items c.args.pipeline ≡ Some c.index_mut.result.now =
+    slice_get_read c.self.inside.cores.items (length c.self.inside.cores.items) c.args.pipeline c.index_mut.result.now refl
+    (let there = c.requires.there in let same = ap (λ (v : WorkerValue). length v.cores) c.self.view_is in omega (arith, there, same)) c.index_mut.ensures.value in
+    on-err _ _
+    (uses-core c.args.desks.now _ c.args.self.now c.self.view_is c.args.pipeline _ c.index.result.now c.index_mut.result.now c.run_kernel_at.new.chair
+    (slice_get_read c.args.desks.now.cores.items (length c.args.desks.now.cores.items) c.args.pipeline c.index.result.now refl
+    (let there = c.requires.there in let count = c.requires.at.count in omega (arith, there, count)) c.index.ensures)
+    found (each-get (IsFree c.self.inside.number) c.self.inside.cores.items c.args.pipeline c.index_mut.result.now c.self.invariant.1 found).0
+    c.in_err-result.ensures.same c.in_err-result.ensures.later c.in_err-result.ensures.knows c.in_err-result.ensures.left)
