@@ -1,0 +1,170 @@
+#!/usr/bin/env python3
+"""Refuses each allocation of the built programs in turn, and again all from each one on, and looks at what comes.
+
+    python3 bench/refused_memory.py [WORD]        only the cases with this word in their names
+
+The system's C compiler builds `refusing_memory.c`, which is preloaded into the programs as they were built. A case is a
+command with its input. It is run once with nothing refused, which counts its allocations. Then for every number n it is run
+with the n-th one refused, and with all from the n-th on. What may come: status 5, the line `memory` on standard error and
+nothing on standard output; or, where the refused one wasn't needed (a thread that can't be made: the workers run one after
+another), what came with nothing refused. Every other outcome is an error and is printed. That a process has ended says that
+all its threads have. Run by hand: docs/RELIABILITY.md has its figures.
+"""
+
+import collections
+import concurrent.futures
+import json
+import os
+import subprocess
+import sys
+import tempfile
+
+from timing import PROGRAM, ROOT
+
+LABORATORY = os.path.join(ROOT, "crates", "artiq_lab", "out", "artiq_lab")
+SOURCE = os.path.join(ROOT, "bench", "refusing_memory.c")
+# A run that takes longer than this many seconds counts as one that doesn't end.
+LONGEST = 120
+
+PAIR = ["at_mu(1000)", "ttl0.on()", "delay_mu(500)", "ttl0.off()"]
+PLAYED_TWICE = [
+    'with core_dma.record("p"):',
+    "    ttl0.on()",
+    "    delay_mu(50)",
+    "    ttl0.off()",
+    "    delay_mu(30)",
+    "at_mu(1000)",
+    'core_dma.playback("p")',
+    'core_dma.playback("p")',
+]
+ONE_EDGE = [
+    "at_mu(1000)",
+    "t = in0.gate_rising_mu(100)",
+    "a = in0.timestamp_mu(t)",
+    "b = in0.timestamp_mu(t)",
+    'set_dataset("a", a)',
+    'set_dataset("b", b)',
+]
+USUAL = [
+    "core.reset()",
+    "total = 0",
+    "for i in range(100):",
+    "    core.break_realtime()",
+    "    with parallel:",
+    "        ttl0.pulse_mu(2000)",
+    "        ttl1.pulse_mu(1500)",
+    "    delay_mu(500)",
+    "    t = in0.gate_rising_mu(1000)",
+    "    total += in0.count(t)",
+    'set_dataset("total", total)',
+]
+
+Case = collections.namedtuple("Case", "name argv text")
+Outcome = collections.namedtuple("Outcome", "status out err")
+REFUSED = Outcome(5, b"", b"memory\n")
+
+
+def kernel(lines):
+    """The text of a kernel whose `main` has these lines."""
+    return "".join(["def main():\n"] + [f"    {line}\n" for line in lines]).encode()
+
+
+def output_of(argv, text):
+    """What a command writes with nothing refused."""
+    return subprocess.run(argv, input=text, stdout=subprocess.PIPE, check=False).stdout
+
+
+def cases():
+    """Every command on a worked kernel or session."""
+    image = output_of([PROGRAM, "compile"], kernel(PAIR))
+    dump = output_of([PROGRAM, "dump"], kernel(PAIR))
+    yield Case("sim, a pair of pulses", [PROGRAM, "sim"], kernel(PAIR))
+    yield Case("sim, a recording played twice", [PROGRAM, "sim"], kernel(PLAYED_TWICE))
+    yield Case("sim, an edge", [PROGRAM, "sim", "--edges", "24:1040:r"], kernel(ONE_EDGE))
+    yield Case("sim, a usual kernel", [PROGRAM, "sim", "--edges", "24:127800:r"], kernel(USUAL))
+    yield Case("sim, a refused text", [PROGRAM, "sim"], b"def main()")
+    yield Case("check, a usual kernel", [PROGRAM, "check"], kernel(USUAL))
+    yield Case("compile, a usual kernel", [PROGRAM, "compile"], kernel(USUAL))
+    yield Case("exec, a pair of pulses", [PROGRAM, "exec"], image)
+    yield Case("gen", [PROGRAM, "gen", "--number", "1"], b"")
+    yield Case("slack, a recording played twice", [PROGRAM, "slack", "--cost", "8"], kernel(PLAYED_TWICE))
+    yield Case("dump, a pair of pulses", [PROGRAM, "dump"], kernel(PAIR))
+    yield Case("vcd, a pair of pulses", [PROGRAM, "vcd"], dump)
+    yield Case("sat, a pair of pulses", [PROGRAM, "sat"], kernel(PAIR))
+    with open(os.path.join(ROOT, "crates", "artiq_lab", "stdin"), encoding="utf-8") as file:
+        session = json.load(file)
+    for workers in (1, 2, 4):
+        text = json.dumps(session | {"workers": workers}).encode()
+        yield Case(f"laboratory, two runs, workers {workers}", [LABORATORY], text)
+
+
+def run(case, library, at, on):
+    """One run with an allocation refused (none where `at` is 0), or all from it on: its outcome, and the count asked."""
+    reader, writer = os.pipe()
+    words = {"LD_PRELOAD": library, "REFUSE_AT": str(at), "REFUSE_ON": str(int(on)), "REFUSE_TOLD": str(writer)}
+    try:
+        ended = subprocess.run(
+            case.argv,
+            input=case.text,
+            stdout=subprocess.PIPE,
+            stderr=subprocess.PIPE,
+            pass_fds=(writer,),
+            env=os.environ | words,
+            timeout=LONGEST,
+            check=False,
+        )
+        outcome = Outcome(ended.returncode, ended.stdout, ended.stderr)
+    except subprocess.TimeoutExpired:
+        outcome = Outcome(None, b"", b"doesn't end\n")
+    os.close(writer)
+    with os.fdopen(reader) as file:
+        told = file.read().strip()
+    return outcome, int(told or -1)
+
+
+def sorted_report(outcome):
+    """An outcome in which the order of lines doesn't count, as that of several workers' steps doesn't."""
+    return outcome.status, sorted(outcome.out.splitlines()), outcome.err
+
+
+def tried(case, library, pool):
+    """Tries a case: its count of allocations, how often each outcome came, and the runs that are errors."""
+    whole, count = run(case, library, 0, False)
+    if count < 1:
+        sys.exit(f"{case.name}: the preloaded library counts nothing")
+    numbers = [(at, on) for on in (False, True) for at in range(1, count + 1)]
+    outcomes = pool.map(lambda it: run(case, library, *it)[0], numbers)
+    found, wrong = collections.Counter(), []
+    for (at, on), outcome in zip(numbers, outcomes):
+        if outcome == REFUSED:
+            found["memory"] += 1
+        elif sorted_report(outcome) == sorted_report(whole):
+            found["as before"] += 1
+        else:
+            found["error"] += 1
+            wrong.append((at, on, outcome))
+    return count, found, wrong
+
+
+def main():
+    """Tries all cases, prints a line for each, and ends with status 1 where one was an error."""
+    word = sys.argv[1] if len(sys.argv) > 1 else ""
+    bad = 0
+    with tempfile.TemporaryDirectory() as folder, concurrent.futures.ThreadPoolExecutor(os.cpu_count()) as pool:
+        library = os.path.join(folder, "refusing_memory.so")
+        subprocess.run(["cc", "-O2", "-shared", "-fPIC", "-o", library, SOURCE], check=True)
+        print(f"{'case':40} {'allocations':>11} {'runs':>7} {'memory':>7} {'as before':>9} {'errors':>6}")
+        for case in cases():
+            if word not in case.name:
+                continue
+            count, found, wrong = tried(case, library, pool)
+            shown = f"{found['memory']:7} {found['as before']:9} {found['error']:6}"
+            print(f"{case.name:40} {count:11} {2 * count:7} {shown}", flush=True)
+            for at, on, outcome in wrong[:5]:
+                print(f"    {'all from' if on else 'only'} {at}: {outcome.status} {outcome.err[:60]} {outcome.out[:60]}")
+            bad += len(wrong)
+    sys.exit(1 if bad else 0)
+
+
+if __name__ == "__main__":
+    main()
