@@ -1,21 +1,10 @@
-//! Texts of kernels beside their tokens, their canonical texts and numbers of nodes, their first wrong tokens and their
-//! first faults of types, and arguments beside the parameters that they fit, worked out by hand from the grammar and the rules
-//! of the types. The crate has tests alone: the crates that they go through aren't proved again with them.
+//! Trees and lists that are built by hand, and types of results. The crate has tests alone: the crates that they go through
+//! aren't proved again with them. What is made of texts and of code stands in the tables of `kernel_rows`.
 #![tactic(auto)]
 
 #[cfg(test)]
-mod arguments;
+mod lists;
 #[cfg(test)]
-mod faults;
-#[cfg(test)]
-mod nesting;
-#[cfg(test)]
-mod printing;
-#[cfg(test)]
-mod texts;
-#[cfg(test)]
-mod tokens;
-#[cfg(test)]
-mod types;
+mod trees;
 #[cfg(test)]
 mod value_types;
