@@ -13,6 +13,7 @@ status 1 where something is otherwise than written, and says where. What it trie
 - A block "python COMMAND STATUS" is a text to which the command (sim or check) answers this status. A block "text" behind
   it is what that writes: on standard output, at status 1 on standard error.
 - In a table with the columns line, text and mended, the text is refused with the line, and the mended one isn't refused.
+  In both, `\\n` is the end of a line, and `\\t` a tab.
 - Where a sentence says that a text in backquotes gives, or is told as, a line in backquotes, the text is refused so.
 - Each kernel in examples/ gives its report under the options in its `.words`, and stands with all three in a row of
   sim_rows. Where it has `.answers`, each line "$ WORDS" there gives the lines below it. Each session there that has a
@@ -26,6 +27,7 @@ status 1 where something is otherwise than written, and says where. What it trie
 - The README has at most 12 KB, no cell of a table more than forty words.
 - Each script of docs/ runs. What needs a program that isn't installed is told as not tried, at the end.
 """
+import os
 import pathlib
 import re
 import shutil
@@ -49,8 +51,8 @@ SCRIPTS = {
     "what_stands_on.py": (["rtio_core"], None),
 }
 # Paths, but for those of any crate, NAME.
-BELOW_CRATES = re.compile(r"`((?!docs/|bench/|examples/|completions/)(?![^`]*NAME)\w+/[\w./-]+)`")
-PATH = re.compile(r"`((?![^`]*NAME)(?:docs|crates|examples|bench|bin|launch|completions)/[\w./-]+)`")
+BELOW_CRATES = re.compile(r"`((?!docs/|bench/|examples/|completions/|python/)(?![^`]*NAME)\w+/[\w./-]+)`")
+PATH = re.compile(r"`((?![^`]*NAME)(?:docs|crates|examples|bench|bin|launch|completions|python)/[\w./-]+)`")
 
 
 class Checker:
@@ -64,8 +66,9 @@ class Checker:
             launcher = folder / "bin" / name
             launcher.write_text(f'#!/bin/sh\nexec "{program}" "$@"\n')
             launcher.chmod(0o755)
-        for name in ("examples", "docs", "crates"):
+        for name in ("examples", "docs", "crates", "python"):
             (folder / name).symlink_to(ROOT / name)
+        self.environment = {**os.environ, "BUSZLOGEM_BIN": str(folder / "bin"), "PYTHONPATH": str(ROOT / "python")}
 
     def expect(self, where, what, found, wanted):
         self.tried += 1
@@ -92,6 +95,7 @@ class Checker:
             run = subprocess.run(
                 ["bash", "-c", f"(exit {status})\n{command}"],
                 cwd=self.folder,
+                env=self.environment,
                 stdout=subprocess.PIPE,
                 stderr=subprocess.STDOUT,
                 stdin=subprocess.DEVNULL,
@@ -123,7 +127,8 @@ class Checker:
             elif columns is None:
                 columns = cells
             elif {"line", "text", "mended"} <= set(columns) and not set(line) <= set("|- "):
-                row = dict(zip(columns, (cell.strip("`") for cell in cells)))
+                plain = (cell.strip("`").replace("\\n", "\n").replace("\\t", "\t") for cell in cells)
+                row = dict(zip(columns, plain))
                 self.refused(where, row["text"], row["line"])
                 status, _, err = self.program("check", row["mended"])
                 self.expect(where, row["mended"], (status == 1, err), (False, ""))

@@ -1,6 +1,6 @@
 #!/usr/bin/env python3
-"""Prints which crates a change of some crates makes to be proved again, lowest first, with the processor minutes that each
-takes by the table "Crate by crate" of docs/GATE.md: its proof, its tests and its edits.
+"""Prints which crates a change of some crates makes to be proved again, lowest first, with the processor minutes that the
+proof of each takes by the table "Crate by crate" of docs/GATE.md; tests and edits come on top.
 
     python3 docs/what_stands_on.py NAME..
 
