@@ -7,8 +7,9 @@ The system's C compiler builds `refusing_memory.c`, which is preloaded into the 
 command with its input. It is run once with nothing refused, which counts its allocations. Then for every number n it is run
 with the n-th one refused, and with all from the n-th on. What may come: status 5, the line `memory` on standard error and
 nothing on standard output; or, where the refused one wasn't needed (a thread that can't be made: the workers run one after
-another), what came with nothing refused. Every other outcome is an error and is printed. That a process has ended says that
-all its threads have. Run by hand: docs/RELIABILITY.md has its figures.
+another), what came with nothing refused. Of several workers the clocks, stamps and order of lines go by their turns, so they
+aren't compared. Every other outcome is an error and is printed. That a process has ended says that all its threads have. Run
+by hand: docs/RELIABILITY.md has its figures.
 """
 
 import collections
@@ -25,6 +26,8 @@ LABORATORY = os.path.join(ROOT, "crates", "artiq_lab", "out", "artiq_lab")
 SOURCE = os.path.join(ROOT, "bench", "refusing_memory.c")
 # A run that takes longer than this many seconds counts as one that doesn't end.
 LONGEST = 120
+# The size of the count that the preloaded library keeps.
+COUNT_BYTES = 8
 
 PAIR = ["at_mu(1000)", "ttl0.on()", "delay_mu(500)", "ttl0.off()"]
 PLAYED_TWICE = [
@@ -59,7 +62,8 @@ USUAL = [
     'set_dataset("total", total)',
 ]
 
-Case = collections.namedtuple("Case", "name argv text")
+# A command with its input, and whether several workers take turns in it.
+Case = collections.namedtuple("Case", "name argv text takes_turns", defaults=(False,))
 Outcome = collections.namedtuple("Outcome", "status out err")
 REFUSED = Outcome(5, b"", b"memory\n")
 
@@ -95,36 +99,40 @@ def cases():
         session = json.load(file)
     for workers in (1, 2, 4):
         text = json.dumps(session | {"workers": workers}).encode()
-        yield Case(f"laboratory, two runs, workers {workers}", [LABORATORY], text)
+        yield Case(f"laboratory, two runs, workers {workers}", [LABORATORY], text, workers > 1)
 
 
 def run(case, library, at, on):
     """One run with an allocation refused (none where `at` is 0), or all from it on: its outcome, and the count asked."""
-    reader, writer = os.pipe()
-    words = {"LD_PRELOAD": library, "REFUSE_AT": str(at), "REFUSE_ON": str(int(on)), "REFUSE_TOLD": str(writer)}
-    try:
-        ended = subprocess.run(
-            case.argv,
-            input=case.text,
-            stdout=subprocess.PIPE,
-            stderr=subprocess.PIPE,
-            pass_fds=(writer,),
-            env=os.environ | words,
-            timeout=LONGEST,
-            check=False,
-        )
-        outcome = Outcome(ended.returncode, ended.stdout, ended.stderr)
-    except subprocess.TimeoutExpired:
-        outcome = Outcome(None, b"", b"doesn't end\n")
-    os.close(writer)
-    with os.fdopen(reader) as file:
-        told = file.read().strip()
-    return outcome, int(told or -1)
+    with tempfile.NamedTemporaryFile() as told:
+        told.write(bytes(COUNT_BYTES))
+        told.flush()
+        words = {"LD_PRELOAD": library, "REFUSE_AT": str(at), "REFUSE_ON": str(int(on)), "REFUSE_TOLD": told.name}
+        try:
+            ended = subprocess.run(
+                case.argv,
+                input=case.text,
+                stdout=subprocess.PIPE,
+                stderr=subprocess.PIPE,
+                env=os.environ | words,
+                timeout=LONGEST,
+                check=False,
+            )
+            outcome = Outcome(ended.returncode, ended.stdout, ended.stderr)
+        except subprocess.TimeoutExpired:
+            outcome = Outcome(None, b"", b"doesn't end\n")
+        told.seek(0)
+        return outcome, int.from_bytes(told.read(COUNT_BYTES), sys.byteorder)
 
 
-def sorted_report(outcome):
-    """An outcome in which the order of lines doesn't count, as that of several workers' steps doesn't."""
-    return outcome.status, sorted(outcome.out.splitlines()), outcome.err
+def settled(case, outcome):
+    """An outcome as it is compared: of several workers without what their turns decide, the order of the lines, the clocks
+    and the stamps."""
+    if not case.takes_turns:
+        return outcome
+    lines = [line.split() for line in outcome.out.splitlines()]
+    timed = (b"step", b"out", b"cursor", b"counter")
+    return outcome.status, sorted([it[0], *it[2:]] if it[0] in timed else it for it in lines), outcome.err
 
 
 def tried(case, library, pool):
@@ -138,7 +146,7 @@ def tried(case, library, pool):
     for (at, on), outcome in zip(numbers, outcomes):
         if outcome == REFUSED:
             found["memory"] += 1
-        elif sorted_report(outcome) == sorted_report(whole):
+        elif settled(case, outcome) == settled(case, whole):
             found["as before"] += 1
         else:
             found["error"] += 1

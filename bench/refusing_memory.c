@@ -1,12 +1,13 @@
 /* A library to be preloaded, for bench/refused_memory.py: it refuses allocations of a program that was built as ever.
  *
  * REFUSE_AT is the number of the allocation that is refused, from 1 on; 0 refuses none. REFUSE_ON set to 1 refuses all
- * behind it too. REFUSE_TOLD is a descriptor to which the count of allocations that were asked is written at the end. */
+ * behind it too. REFUSE_TOLD is a file of eight bytes, which hold the count of allocations that were asked, at any moment. */
 #include <errno.h>
+#include <fcntl.h>
 #include <stdatomic.h>
 #include <stddef.h>
-#include <stdio.h>
 #include <stdlib.h>
+#include <sys/mman.h>
 #include <unistd.h>
 
 extern void *__libc_malloc(size_t);
@@ -14,40 +15,35 @@ extern void *__libc_calloc(size_t, size_t);
 extern void *__libc_realloc(void *, size_t);
 extern void *__libc_memalign(size_t, size_t);
 
-static atomic_long asked;
+static atomic_long own;
+static atomic_long *asked = &own;
 static long refused_at;
 static int refuses_on;
 static int counts;
-static int told = -1;
 
 /* Counting begins with the program's own code, behind the loader's. */
 __attribute__((constructor)) static void begin(void)
 {
     const char *at = getenv("REFUSE_AT");
     const char *on = getenv("REFUSE_ON");
-    const char *to = getenv("REFUSE_TOLD");
+    const char *told = getenv("REFUSE_TOLD");
+    int file = told ? open(told, O_RDWR) : -1;
+    if (file >= 0) {
+        void *shared = mmap(NULL, sizeof *asked, PROT_READ | PROT_WRITE, MAP_SHARED, file, 0);
+        if (shared != MAP_FAILED)
+            asked = shared;
+        close(file);
+    }
     refused_at = at ? atol(at) : 0;
     refuses_on = on && *on == '1';
-    told = to ? atoi(to) : -1;
     counts = 1;
-}
-
-__attribute__((destructor)) static void end(void)
-{
-    char line[32];
-    counts = 0;
-    if (told >= 0) {
-        int length = snprintf(line, sizeof line, "%ld\n", (long)atomic_load(&asked));
-        if (write(told, line, (size_t)length) < 0)
-            _exit(97);
-    }
 }
 
 static int is_refused(void)
 {
     if (!counts)
         return 0;
-    long number = atomic_fetch_add(&asked, 1) + 1;
+    long number = atomic_fetch_add(asked, 1) + 1;
     if (refused_at == 0 || number < refused_at || (number > refused_at && !refuses_on))
         return 0;
     errno = ENOMEM;

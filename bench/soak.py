@@ -36,6 +36,7 @@ SOURCE = """def pulses(length: int64):
     ttl0.pulse_mu(length)
     delay_mu(40)
     ttl1.pulse_mu(length)
+    delay_mu(16)
 
 def photons(length: int64):
     core.break_realtime()
@@ -43,6 +44,7 @@ def photons(length: int64):
     set_dataset("seen", in0.count(end))
     delay_mu(80)
     raw3.write(7, 2)
+    delay_mu(16)
 
 def played(length: int64):
     with core_dma.record("pair"):
@@ -52,10 +54,12 @@ def played(length: int64):
     core.break_realtime()
     core_dma.playback("pair")
     core_dma.playback("pair")
+    delay_mu(16)
 
 def divides(length: int64):
     core.break_realtime()
     ttl2.pulse_mu(length)
+    delay_mu(16)
     set_dataset("never", length // (length - length))
 
 def main():
@@ -66,22 +70,22 @@ def main():
 def pulses(length):
     """Of `pulses`: its outputs as (distance, channel, address, data), and where its cursor ends."""
     behind = length + 40
-    return [(0, 0, 0, 1), (length, 0, 0, 0), (behind, 1, 0, 1), (behind + length, 1, 0, 0)], behind + length
+    return [(0, 0, 0, 1), (length, 0, 0, 0), (behind, 1, 0, 1), (behind + length, 1, 0, 0)], behind + length + 16
 
 
 def photons(length):
     """Of `photons`: the gate of in0, and a word of a raw channel."""
-    return [(0, 24, 2, 1), (length, 24, 2, 0), (length + 80, 19, 7, 2)], length + 80
+    return [(0, 24, 2, 1), (length, 24, 2, 0), (length + 80, 19, 7, 2)], length + 96
 
 
 def played(length):
     """Of `played`: a recording, twice; where one ends the other begins, and overrides what stands there."""
-    return [(0, 4, 0, 1), (length, 4, 0, 1), (2 * length, 4, 0, 0)], 2 * length
+    return [(0, 4, 0, 1), (length, 4, 0, 1), (2 * length, 4, 0, 0)], 2 * length + 16
 
 
 def divides(length):
     """Of `divides`: what comes before the division."""
-    return [(0, 2, 0, 1), (length, 2, 0, 0)], length
+    return [(0, 2, 0, 1), (length, 2, 0, 0)], length + 16
 
 
 KERNELS = {"pulses": pulses, "photons": photons, "played": played, "divides": divides}
