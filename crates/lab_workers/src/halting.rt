@@ -23,6 +23,7 @@ pub(crate) fn halt<R: Wait>(rt: &R, alloc: Global, desks: &Desks, chair: &mut Ch
     let who = chair.number();
     let mut held = desks.sched.take(rt, chair);
     let sched = held.value();
+    // (read for its proof: a history that is held is one that its readers know)
     let _known = sched.history();
     sched.stop(alloc, who);
     desks.sched.put(chair, held);

@@ -86,7 +86,9 @@ pub record PutsOut (core : CoreState) : Type 0 where
   pub exactly : (p : ℕ × Event) → IsAmong p events ↔ IsPutOut core p
 
 -- an output behind some entries underflows exactly where the counter has reached
--- its cycle, and then submits nothing: only those before it are submitted
+-- its cycle, and then submits nothing: only those before it are submitted. The second half is true by definition, since
+-- `submitted` reads only outputs that were answered Done: what it stands for is that no event put out and no line of the
+-- log has this output's number
 abbrev pub UnderflowsExactly : (before : List Entry) → (chair : ℕ) → Act → Type 0
 UnderflowsExactly before chair (Asked (ask.Out e) reply at) =
     ((reply ≡ answer.Underflow) ↔ (cycle_of e ≤ at))

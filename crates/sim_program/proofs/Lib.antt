@@ -1,6 +1,6 @@
-mod Kernels
+pub mod Kernels
 mod Images
-mod Running
+pub mod Running
 mod Few
 mod Sending
 mod Waves

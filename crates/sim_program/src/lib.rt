@@ -13,4 +13,8 @@ mod run;
 mod top;
 mod wave;
 
+pub use finish::{Finish, finish_of, status_of};
+pub use kernel::{Kernel, kernel_of};
+pub use refusal::code_refusal;
+pub use run::{Run, run_main};
 pub use top::{sim_top, without_memory};
