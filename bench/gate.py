@@ -7,8 +7,9 @@
 Run by hand. Some kits keep what a gate passed: there the word --anew has the whole gate proved from nothing, and without
 it only what the machine has not kept. Other kits take no word, and prove all each time. Times are of processors, user
 and system together, read twice a second from /proc: what a check used up after its last reading is missing, so a crate's
-numbers are low by a part of a second for each check. The last line of a log has the whole run as the system counts it,
-with the run's own work.
+numbers are low by a part of a second for each check. Behind them a line has the seconds of the run at which the check was
+first and last seen. The last line of a log has the whole run as the system counts it, with the run's own work. What was
+read so far stands in LOG while the run goes on, too.
 """
 
 import collections
@@ -18,8 +19,11 @@ import subprocess
 import sys
 import time
 
+sys.path.insert(0, os.path.join(os.path.dirname(os.path.abspath(__file__)), "../docs"))
+import sizes  # noqa: E402
+
 # The budget in seconds: of a crate, and of a program's top crate.
-BUDGET, TOP_BUDGET, TOP_CRATES = 420, 840, ("sim_program", "lab_program")
+BUDGET, TOP_BUDGET, TOP_CRATES = 420, 840, ("sim_program", "trace_program", "lab_program")
 KINDS = ("proof", "tests", "edits")
 TICK = os.sysconf("SC_CLK_TCK")
 
@@ -71,8 +75,10 @@ def below(top):
 def record(path, words):
     """Runs the gate and writes a line for each of its checks: seconds, crate, kind."""
     run = subprocess.Popen(["rt", "ci", *words], start_new_session=True)
-    known, seconds, start = {}, {}, time.monotonic()
+    known, seconds, first, last = {}, {}, {}, {}
+    start = written = time.monotonic()
     while run.poll() is None:
+        now = time.monotonic()
         for process, used in below(run.pid).items():
             if process not in known:
                 line = words_of(process)
@@ -81,13 +87,25 @@ def record(path, words):
                 name = line[line.index("--crate-name") + 1] if "--crate-name" in line else "-"
                 known[process] = name, kind_of(process, line)
             seconds[process] = used
+            first.setdefault(process, now - start)
+            last[process] = now - start
+        if now - written > 60:
+            written = now
+            write(path, [(seconds[it], *known[it], first[it], last[it]) for it in seconds])
         time.sleep(0.5)
     whole = resource.getrusage(resource.RUSAGE_CHILDREN)
-    with open(path, "w", encoding="utf-8") as log:
-        for process, used in seconds.items():
-            print(f"{used:.1f}", *known[process], file=log)
-        print(f"{whole.ru_utime + whole.ru_stime:.1f} whole {time.monotonic() - start:.0f}", file=log)
+    checks = [(seconds[it], *known[it], first[it], last[it]) for it in seconds]
+    write(path, checks, (whole.ru_utime + whole.ru_stime, time.monotonic() - start))
     return run.returncode
+
+
+def write(path, checks, whole=None):
+    """Writes a log: a line for each check, and the last for the whole run where that has ended."""
+    with open(path, "w", encoding="utf-8") as log:
+        for used, crate, kind, first, last in checks:
+            print(f"{used:.1f} {crate} {kind} {first:.0f} {last:.0f}", file=log)
+        if whole:
+            print(f"{whole[0]:.1f} whole {whole[1]:.0f}", file=log)
 
 
 def lines_of(paths):
@@ -101,7 +119,7 @@ def show(paths):
     """Prints the table of the logs, dearest crates first, and names those over their budget."""
     spent, checks, whole = collections.defaultdict(lambda: dict.fromkeys(KINDS, 0.0)), collections.Counter(), [0.0, 0]
     for line in lines_of(paths):
-        seconds, crate, kind = line.split()
+        seconds, crate, kind, *_ = line.split()
         if crate == "whole":
             whole = [whole[0] + float(seconds), whole[1] + int(kind)]
         else:
@@ -114,10 +132,21 @@ def show(paths):
     every = {kind: sum(of[kind] for of in spent.values()) / 60 for kind in KINDS}
     print(f"\nproofs {every['proof']:.0f}, tests {every['tests']:.0f}, edits {every['edits']:.0f} processor minutes")
     print(f"the whole: {whole[0] / 60:.0f} processor minutes, {whole[1] / 60:.0f} minutes by the clock")
+    length, names = chain({crate: of["proof"] for crate, of in spent.items()})
+    print(f"the longest chain of proofs: {length / 60:.0f} processor minutes, {', '.join(names)}")
     for crate, of in spent.items():
         limit = TOP_BUDGET if crate in TOP_CRATES else BUDGET
         if sum(of.values()) > limit:
             print(f"over its budget of {limit // 60} minutes: {crate}")
+
+
+def chain(seconds):
+    """Returns the seconds of the longest chain of proofs, each crate of which stands on the one before, and its crates."""
+    every, best = sizes.crates(), {}
+    for name in sorted(every, key=lambda it: len(sizes.below(every, it))):
+        under = max((best[it] for it in sizes.below(every, name) - {name}), default=(0.0, []))
+        best[name] = under[0] + seconds.get(name, 0.0), [*under[1], name]
+    return max(best.values())
 
 
 def main():

@@ -23,7 +23,7 @@ status 1 where something is otherwise than written, and says where. What it trie
   its order, each with the crates that it stands on and clauses that it has. Each word in backquotes in CONTRACTS.md
   stands in the code of the crate that its heading names, and in the map of BELIEVING.md in the files beside it. The
   numbers of definitions and lines there are those of definitions.py, to a tenth. The edits that WRONG_BODIES.md names
-  stand in the gate.
+  stand in the gate, or in edits/ where it says so.
 - The README has at most 12 KB, no cell of a table more than forty words.
 - Each script of docs/ runs. What needs a program that isn't installed is told as not tried, at the end.
 """
@@ -199,8 +199,9 @@ class Checker:
 
     def edits(self):
         page = re.sub(r"`[^`\n]+`", "", (ROOT / "docs/WRONG_BODIES.md").read_text())
-        for crate, edit in re.findall(r"\b(\w+)/(\w+)", page):
-            stands = (ROOT / "crates" / crate / "must-fail" / f"{edit}.edit").exists()
+        for aside, crate, edit in re.findall(r"\b(edits/)?(\w+)/(\w+)", page):
+            folder = ROOT / "edits" / crate if aside else ROOT / "crates" / crate / "must-fail"
+            stands = (folder / f"{edit}.edit").exists()
             self.expect("docs/WRONG_BODIES.md", f"{crate}/{edit}", stands, True)
 
     def names(self):

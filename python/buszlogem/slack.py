@@ -31,8 +31,8 @@ class Slack:
     outputs : int or None
         Of a yes: how many outputs the kernel asks for.
     number, stamp, channel, limit : int or None
-        Of a no: the output that may be too late, from 0; the earliest stamp that it can have and the most that the counter
-        can read when it is asked for, in mu; and its channel.
+        Of a no: the output that may be too late, from 0; a bound that its stamp isn't below and one that the counter's reading
+        doesn't exceed when it is asked for, in mu; and its channel.
     requests : int or None
         Of an open one: how many requests were answered before.
     why : str or None
