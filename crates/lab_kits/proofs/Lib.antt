@@ -1,5 +1,4 @@
 mod Named
 mod Each
 mod Sessions
-mod Kernels
 mod Prepared

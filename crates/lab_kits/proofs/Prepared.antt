@@ -5,6 +5,11 @@ use Rattle.std.specs.List.{AllByRecursion}
 use Rattle.std.proofs.lemmas.Bool.{false≢true, ltb-true}
 use Rattle.std.proofs.lemmas.Option.{slice_get_read}
 use Rattle.kern_syntax.specs.Tree.{Bytes, ProgramTree}
+use Rattle.kern_accepted.specs.Refusals.{IsEndOf}
+use Rattle.kern_accepted.specs.Texts.{IsKernelText}
+use Rattle.kern_accepted.specs.declared.end.KernelEnd.{KernelEnd}
+use Rattle.kern_accepted.specs.declared.end.KernelEnd.TheVariants as K
+use Rattle.kern_accepted.proofs.Kernels.{none-refused, one-program}
 use Rattle.exp_runs.specs.declared.run.Run.{Run}
 use Rattle.exp_model.specs.declared.session.Experiment.{Experiment}
 use Rattle.exp_model.specs.declared.session.Session.{Session}
@@ -12,25 +17,17 @@ use Rattle.exp_model.specs.declared.step.HostStep.{HostStep}
 use Rattle.exp_model.specs.declared.step.HostStep.TheVariants as step
 use Rattle.sched_state.specs.Reports.{run_steps, steps_in}
 use Rattle.sched_core.specs.Scheds.{HasCall, found_source, source_of_run}
-use Rattle.lab_kits.specs.declared.end.PrepareEnd.{PrepareEnd}
-use Rattle.lab_kits.specs.declared.end.PrepareEnd.TheVariants.{Refused, Memory}
 use Rattle.lab_kits.specs.declared.kit.Kit.{Kit}
 use Rattle.lab_kits.specs.Accepted.{IsAccepted}
 use Rattle.lab_kits.specs.Calls.{HasCallOf}
-use Rattle.lab_kits.specs.Ends.{IsEndFor}
+use Rattle.lab_kits.specs.Ends.{IsEndFor, end_of_kernel}
 use Rattle.lab_kits.specs.Kits.{IsKitOf, KitCall, program_in}
-use Rattle.lab_kits.specs.Texts.{IsAnyKernelText, IsKernelText, IsOnlyKernelText}
 
 -- an item that a list has at a place, where it is read off another
 pub found-at : {A : Type 0} (items xs : List A) (k : ℕ) (x : A) → items ≡ xs → true ≡ nat_lt k (length items) → x ≡ slice_index_or items k x → slice_get xs k ≡ Some x
 found-at items xs k x same within is =
     let below : k < length items = ltb-true k (length items) (sym within) in
     subst (λ l. slice_get l k ≡ Some x) same (slice_get_read items (length items) k x refl below is)
-
--- what isn't accepted as the one isn't as the other
-pub end-for : (a b : Type 0) (end : PrepareEnd) → (b → a) → IsEndFor a end → IsEndFor b end
-end-for a b Refused less not-a = λ holds. not-a (less holds)
-end-for a b Memory less memory = tt
 
 -- a kit has a call where its program has it
 kit-has : (kit : Kit) (what : HostStep) → HasCall HasCallOf (program_in kit) what → HasCall KitCall kit what
@@ -76,14 +73,15 @@ module _ (session : Session) (run : Run) where
       accepted-kernel accepted = subst (λ (t : Bytes). IsKernelText t accepted.program) (same-text accepted) accepted.is_kernel
 
       -- nor where its text is no kernel's
-      pub text-end : (end : PrepareEnd) → IsEndFor (IsAnyKernelText text) end → IsEndFor (IsAccepted session run) end
-      text-end end is = end-for (IsAnyKernelText text) (IsAccepted session run) end (λ accepted. (accepted.program, accepted-kernel accepted)) is
+      pub text-end : (end : KernelEnd) → IsEndOf text end → IsEndFor (IsAccepted session run) (end_of_kernel end)
+      text-end (K.Refused refusal) why = λ accepted. none-refused text refusal why accepted.program (accepted-kernel accepted)
+      text-end K.Memory why = tt
 
-      module _ (program : ProgramTree) (kernel : IsOnlyKernelText text program) where
+      module _ (program : ProgramTree) (kernel : IsKernelText text program) where
         -- nor where a step calls no function of the kernel
         pub calls-end : (AllByRecursion (HasCall HasCallOf program) e.run → ⊥) → IsAccepted session run → ⊥
         calls-end lacks accepted =
-            let same : program ≡ accepted.program = kernel.only accepted.program (accepted-kernel accepted) in
+            let same : program ≡ accepted.program = one-program text program accepted.program kernel.is_text (accepted-kernel accepted).is_text in
             let own : AllByRecursion (HasCall HasCallOf program) (run_steps session run) =
             subst (λ (p : ProgramTree). AllByRecursion (HasCall HasCallOf p) (run_steps session run)) (sym same) accepted.calls in
             lacks (subst (AllByRecursion (HasCall HasCallOf program)) steps-are own)
@@ -96,14 +94,14 @@ module _ (session : Session) (run : Run) where
           text = text;
           text_is = found;
           program = program;
-          is_kernel = kernel.is_kernel;
+          is_kernel = kernel;
           calls = subst (AllByRecursion (HasCall HasCallOf program)) (sym steps-are) all;
         }
 
       -- and a kit of its source and its kernel is one for it
-      pub kit-is : (kit : Kit) → kit.source ≡ e.source → IsOnlyKernelText text (program_in kit) → AllByRecursion (HasCall HasCallOf (program_in kit)) e.run → IsKitOf session run kit
+      pub kit-is : (kit : Kit) → kit.source ≡ e.source → IsKernelText text (program_in kit) → AllByRecursion (HasCall HasCallOf (program_in kit)) e.run → IsKitOf session run kit
       kit-is kit same kernel all = record {
         same = source-is ∙ ap Some (sym same);
-        text = (text, subst (λ (k : ℕ). slice_get session.sources k ≡ Some text) (sym same) found, kernel.is_kernel);
+        text = (text, subst (λ (k : ℕ). slice_get session.sources k ≡ Some text) (sym same) found, kernel);
         calls = subst (AllByRecursion (HasCall KitCall kit)) (sym steps-are) (kit-has-all kit e.run all);
       }

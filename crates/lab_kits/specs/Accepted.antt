@@ -7,7 +7,7 @@ use Rattle.exp_model.specs.declared.session.Session.{Session}
 use Rattle.sched_state.specs.Reports.{run_steps}
 use Rattle.sched_core.specs.Scheds.{HasCall, source_of_run}
 use Rattle.lab_kits.specs.Calls.{HasCallOf}
-use Rattle.lab_kits.specs.Texts.{IsKernelText}
+use Rattle.kern_accepted.specs.Texts.{IsKernelText}
 
 -- the source of a run is the text of an accepted kernel, and each kernel step of
 -- its run stage names a function of that kernel, which the step's arguments fit

@@ -1,10 +1,6 @@
 -- Why a run has no kit.
-use Rattle.kern_lexer.specs.declared.fault.LexEnd.{LexEnd}
-use Rattle.kern_lexer.specs.declared.fault.LexEnd.TheVariants as L
-use Rattle.kern_parser.specs.declared.parsing.SyntaxEnd.{SyntaxEnd}
-use Rattle.kern_parser.specs.declared.parsing.SyntaxEnd.TheVariants as S
-use Rattle.core_code.specs.declared.end.CodeEnd.{CodeEnd}
-use Rattle.core_code.specs.declared.end.CodeEnd.TheVariants as C
+use Rattle.kern_accepted.specs.declared.end.KernelEnd.{KernelEnd}
+use Rattle.kern_accepted.specs.declared.end.KernelEnd.TheVariants as K
 use Rattle.lab_kits.specs.declared.end.PrepareEnd.{PrepareEnd}
 use Rattle.lab_kits.specs.declared.end.PrepareEnd.TheVariants.{Refused, Memory}
 
@@ -13,17 +9,7 @@ abbrev pub IsEndFor : (accepted : Type 0) → PrepareEnd → Type 0
 IsEndFor accepted Refused = accepted → ⊥
 IsEndFor accepted Memory = Unit {0}
 
--- a text without tokens is refused
-abbrev pub end_of_tokens : LexEnd → PrepareEnd
-end_of_tokens (L.Fault at kind) = Refused
-end_of_tokens L.Memory = Memory
-
--- and so are tokens without a tree
-abbrev pub end_of_tree : SyntaxEnd → PrepareEnd
-end_of_tree (S.Fault token) = Refused
-end_of_tree S.Memory = Memory
-
--- and a program with too many nodes
-abbrev pub end_of_code : CodeEnd → PrepareEnd
-end_of_code (C.TooLarge nodes) = Refused
-end_of_code C.Memory = Memory
+-- a text is refused that is no accepted kernel's
+abbrev pub end_of_kernel : KernelEnd → PrepareEnd
+end_of_kernel (K.Refused refusal) = Refused
+end_of_kernel K.Memory = Memory

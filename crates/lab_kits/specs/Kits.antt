@@ -7,7 +7,7 @@ use Rattle.exp_model.specs.declared.session.Session.{Session}
 use Rattle.sched_core.specs.Scheds.{IsKitFor}
 use Rattle.lab_kits.specs.declared.kit.Kit.{Kit}
 use Rattle.lab_kits.specs.Calls.{HasCallOf}
-use Rattle.lab_kits.specs.Texts.{IsKernelText}
+use Rattle.kern_accepted.specs.Texts.{IsKernelText}
 
 -- the program that it keeps
 abbrev pub program_in : Kit → ProgramTree

@@ -1,4 +1,3 @@
-pub mod Texts
 pub mod Calls
 pub mod Ends
 pub mod Accepted

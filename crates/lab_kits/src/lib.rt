@@ -7,7 +7,6 @@
 mod calls;
 mod end;
 mod gate;
-mod kernel;
 mod kit;
 mod preparing;
 

@@ -9,10 +9,10 @@ ghost use Rattle.lab_kits.specs.Kits.{IsKitOf};
 use crate::calls::serves_all;
 use crate::end::PrepareEnd;
 use crate::gate::{Gate, Place};
-use crate::kernel::compile_text;
 use crate::kit::Kit;
 use exp_model::Session;
 use exp_runs::Run;
+use kern_accepted::compile_text;
 use std::alloc::Global;
 
 /// Compiles the source of a run, as the worker of this number, and tests the run's kernel steps on it. The worker passes

@@ -19,7 +19,7 @@ use Rattle.lab_kernels.specs.Meanings.{MeansProgram}
 use Rattle.lab_kernels.specs.Runs.{RunsCode}
 use Rattle.lab_kits.specs.declared.kit.Kit.{Kit}
 use Rattle.lab_kits.specs.Calls.{HasFunction}
-use Rattle.lab_kits.specs.Texts.{IsKernelText}
+use Rattle.kern_accepted.specs.Texts.{IsKernelText}
 
 -- what the session of a step is started for, by the kit of its run
 abbrev pub start_of : Kit → (function : ℕ) → (args : List ℤ) → (rid place : ℕ) → StartOf

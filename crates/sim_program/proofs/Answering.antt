@@ -14,7 +14,8 @@ use Rattle.sim_program.specs.declared.report.Form.{Form}
 use Rattle.sim_program.specs.declared.report.Form.TheVariants.{Report, Summary}
 use Rattle.sim_program.specs.declared.report.Form.TheVariants as F
 use Rattle.sim_program.specs.declared.run.Run.{Run}
-use Rattle.sim_program.specs.Texts.{IsKernel, IsKernelText, IsTextRefused}
+use Rattle.kern_accepted.specs.Texts.{IsKernelText}
+use Rattle.sim_program.specs.Texts.{IsTextRefused}
 use Rattle.sim_program.specs.Images.{IsAcceptedImage, IsImageRefused}
 use Rattle.sim_program.specs.Reports.{status_of}
 use Rattle.sim_program.specs.Answers.{CompilesText, PrintsText}
@@ -23,14 +24,14 @@ use Rattle.slack_check.specs.Lines.{slack_line}
 use Rattle.slack_check.specs.Mains.{MainNeverUnderflows, verdict_of_main}
 use Rattle.slack_meaning.specs.declared.verdict.Verdict.{Verdict}
 use Rattle.slack_meaning.specs.declared.verdict.Verdict.TheVariants.{Yes}
-use Rattle.sim_program.specs.Readings.{IsAnswerTo, IsCodeRun, IsMainRun, IsNoKernelText, IsReadAs, IsRunAnswer, TellsOf}
-use Rattle.sim_program.proofs.Kernels.{text-not-refused}
+use Rattle.sim_program.specs.Readings.{IsAnswerTo, IsCodeRun, IsMainRun, IsRunAnswer, TellsOf}
+use Rattle.sim_program.proofs.Refused.{text-not-refused}
 
 -- ---- runs
 
-run-answer : (options : Options) (form : Form) (text : Bytes) (program : ProgramTree) (code : Code) (run : Run) (size : ℕ) (answer : Answer) → IsReadAs text program → IsKernel program → DoesAs program code → size ≡ length (image_of code)
+run-answer : (options : Options) (form : Form) (text : Bytes) (program : ProgramTree) (code : Code) (run : Run) (size : ℕ) (answer : Answer) → IsKernelText text program → DoesAs program code → size ≡ length (image_of code)
     → IsMainRun program code options run.core run.outcome run.steps → TellsOf form run options.budget size answer → IsRunAnswer options form text answer
-run-answer options form text program code run size (A.Due bytes finish) read kernel does size_is r tells = (
+run-answer options form text program code run size (A.Due bytes finish) kernel does size_is r tells = (
   record {
     core = run.core;
     how = run.outcome;
@@ -38,7 +39,7 @@ run-answer options form text program code run size (A.Due bytes finish) read ker
     steps = run.steps;
     run = record {
       program = program;
-      is_kernel = record { is_text = read.is_text; kernel = kernel };
+      is_kernel = kernel;
       main = code.main;
       left = r.left;
       runs = r.runs;
@@ -48,15 +49,15 @@ run-answer options form text program code run size (A.Due bytes finish) read ker
     text = tells.0;
     status_is = ap status_of tells.1;
   },
-  λ told refused. text-not-refused text told program read kernel refused,
+  λ told refused. text-not-refused text told program kernel refused,
 )
-run-answer options form text program code run size (A.Refused told) read kernel does size_is r tells = absurd tells
-run-answer options form text program code run size (A.Bad told) read kernel does size_is r tells = absurd tells
+run-answer options form text program code run size (A.Refused told) kernel does size_is r tells = absurd tells
+run-answer options form text program code run size (A.Bad told) kernel does size_is r tells = absurd tells
 
-pub run-answers : (options : Options) (form : Form) (text : Bytes) (program : ProgramTree) (code : Code) (run : Run) (size : ℕ) {E : Type 0} (result : Result Answer E) → IsReadAs text program → IsKernel program → DoesAs program code → size ≡ length (image_of code)
+pub run-answers : (options : Options) (form : Form) (text : Bytes) (program : ProgramTree) (code : Code) (run : Run) (size : ℕ) {E : Type 0} (result : Result Answer E) → IsKernelText text program → DoesAs program code → size ≡ length (image_of code)
     → IsMainRun program code options run.core run.outcome run.steps → IfOk result (λ answer. TellsOf form run options.budget size answer) → IfOk result (λ answer. IsRunAnswer options form text answer)
-run-answers options form text program code run size (Ok answer) read kernel does size_is r tells = run-answer options form text program code run size answer read kernel does size_is r tells
-run-answers options form text program code run size (Err e) read kernel does size_is r tells = tt
+run-answers options form text program code run size (Ok answer) kernel does size_is r tells = run-answer options form text program code run size answer kernel does size_is r tells
+run-answers options form text program code run size (Err e) kernel does size_is r tells = tt
 
 code-answer : (options : Options) (dma : Bool) (bytes : List ℕ) (code : Code) (run : Run) (size : ℕ) (answer : Answer) → IsAcceptedImage bytes code → ((told : List ℕ) → ¬ IsImageRefused bytes told) → size ≡ length bytes
     → IsCodeRun code options run.core run.outcome run.steps → TellsOf (Report dma) run options.budget size answer → IsAnswerTo (Exec options dma) bytes answer
@@ -73,6 +74,8 @@ code-answer options dma bytes code run size (A.Due written finish) accepted not_
       left = r.left;
       session = r.session;
       after = r.after;
+      next = r.next;
+      script = r.script;
       timed = r.timed;
       at_top = r.at_top;
       reported = r.reported;
@@ -93,35 +96,31 @@ code-answers options dma bytes code run size (Err e) accepted not_refused size_i
 
 -- ---- texts
 
-pub printed : (text written : Bytes) (program : ProgramTree) → IsReadAs text program → IsKernel program → written ≡ program_text program → PrintsText text written × ((told : Bytes) → ¬ IsTextRefused text told)
-printed text written program read kernel is = (
-  record { program = program; is_kernel = record { is_text = read.is_text; kernel = kernel }; printed = is },
-  λ told refused. text-not-refused text told program read kernel refused,
+pub printed : (text written : Bytes) (program : ProgramTree) → IsKernelText text program → written ≡ program_text program → PrintsText text written × ((told : Bytes) → ¬ IsTextRefused text told)
+printed text written program kernel is = (
+  record { program = program; is_kernel = kernel; printed = is },
+  λ told refused. text-not-refused text told program kernel refused,
 )
 
-pub compiled : (text written : Bytes) (program : ProgramTree) (code : Code) → IsReadAs text program → IsKernel program → DoesAs program code → written ≡ image_of code → CompilesText text written × ((told : Bytes) → ¬ IsTextRefused text told)
-compiled text written program code read kernel does is = (
-  record { program = program; is_kernel = record { is_text = read.is_text; kernel = kernel }; code = code; does = does; image = is },
-  λ told refused. text-not-refused text told program read kernel refused,
+pub compiled : (text written : Bytes) (program : ProgramTree) (code : Code) → IsKernelText text program → DoesAs program code → written ≡ image_of code → CompilesText text written × ((told : Bytes) → ¬ IsTextRefused text told)
+compiled text written program code kernel does is = (
+  record { program = program; is_kernel = kernel; code = code; does = does; image = is },
+  λ told refused. text-not-refused text told program kernel refused,
 )
 
 -- the line of a verdict tells of the kernel
-pub told-verdict : (cost depth : ℕ) (text written : Bytes) (program : ProgramTree) (verdict : Verdict) → IsReadAs text program → IsKernel program → verdict ≡ verdict_of_main program cost depth
+pub told-verdict : (cost depth : ℕ) (text written : Bytes) (program : ProgramTree) (verdict : Verdict) → IsKernelText text program → verdict ≡ verdict_of_main program cost depth
     → ((outs : ℕ) → verdict ≡ Yes outs → MainNeverUnderflows program cost depth) → written ≡ slack_line verdict
     → TellsSlack cost depth text written × ((told : Bytes) → ¬ IsTextRefused text told)
-told-verdict cost depth text written program verdict read kernel is promise line = (
+told-verdict cost depth text written program verdict kernel is promise line = (
   record {
     program = program;
-    is_kernel = record { is_text = read.is_text; kernel = kernel };
+    is_kernel = kernel;
     line = line ∙ ap slack_line is;
     yes = λ outs said. promise outs (is ∙ said);
   },
-  λ told refused. text-not-refused text told program read kernel refused,
+  λ told refused. text-not-refused text told program kernel refused,
 )
-
--- a text without a kernel isn't taken
-pub not-taken : (text : Bytes) → IsNoKernelText text → ((program : ProgramTree) × IsKernelText text program) → ⊥
-not-taken text none taken = none taken.0 taken.1
 
 -- ---- the commands that run a kernel
 

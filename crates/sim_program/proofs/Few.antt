@@ -1,11 +1,10 @@
 -- A run's core tells few events and few lines.
 use Rattle.std.proofs.Common.{◌≡◌, ℕ, List, [], ◌∷◌, ◌++◌, refl, ap, ◌∙◌, arith, length-append}
-use Rattle.std.specs.Prelude.{◌+◌, ◌*◌, ◌^◌, ◌≤◌, ◌<◌, ℤ, true, suc, length, nat_lt, IsTrue}
+use Rattle.std.specs.Prelude.{◌+◌, ◌*◌, ◌^◌, ◌≤◌, ℤ, true, suc, length, nat_lt, IsTrue}
 use Rattle.std.proofs.lemmas.Bool.{lt-ltb}
 use Rattle.std.proofs.lemmas.List.{length-map}
 use Rattle.rtio_types.specs.declared.outcome.Outcome.{Outcome}
 use Rattle.rtio_types.specs.declared.outcome.Outcome.TheVariants as outcome
-use Rattle.rtio_types.specs.declared.request.Request.{Request}
 use Rattle.rtio_log.specs.declared.LogLine.{LogLine}
 use Rattle.rtio_core.specs.declared.data.Act.TheVariants.{End}
 use Rattle.rtio_core.specs.declared.data.Config.{Config}

@@ -1,4 +1,4 @@
-pub mod Kernels
+pub mod Refused
 mod Images
 pub mod Running
 mod Few

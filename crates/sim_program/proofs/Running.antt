@@ -1,6 +1,6 @@
 -- The session of a main function, and what follows it.
 use Rattle.std.proofs.Common.{◌≡◌, ℕ, List, [], ◌∷◌, ◌++◌, refl, sym, ap, subst, ◌∙◌, arith, Some, None}
-use Rattle.std.specs.Prelude.{◌+◌, ◌<◌, ℤ, zero, suc, length, slice_get}
+use Rattle.std.specs.Prelude.{◌<◌, ℤ, zero, suc, length, slice_get}
 use Rattle.std.proofs.lemmas.List.Sums.{fold-append}
 use Rattle.rtio_types.specs.declared.outcome.Outcome.{Outcome}
 use Rattle.rtio_core.specs.declared.data.Act.TheVariants.{End}
@@ -53,6 +53,12 @@ pub has-main : (code : Code) → IsInRange code → MainTakesNothing code → Ha
 has-main code in_range nothing =
     let g = get-some code.functions code.main in_range.main in
     record { entry = g.0; found = g.1; fit = sym (nothing g.0 g.1) }
+
+-- and so a session of it has an entry
+pub has-entry : (code lent : Code) (of : StartOf) → lent ≡ code → of ≡ start_of lent.main → IsInRange lent → MainTakesNothing lent → HasEntry code of.function of.args
+has-entry code lent of same of_is in_range nothing =
+    subst (λ (k : Code). HasEntry k of.function of.args) same
+    (subst (λ (x : StartOf). HasEntry lent x.function x.args) (sym of_is) (has-main lent in_range nothing))
 
 -- a history that a session was added to has no open session, and ends with an end
 added : (of : StartOf) (old new : CoreState) (asked : List Answered) (how : Outcome) (cursor : ℤ) → AddsSession of old new asked how cursor
@@ -116,10 +122,10 @@ main-run program code options of first left core after how outcome count steps d
 pub code-run : (code : Code) (options : Options) (of : StartOf) (first left core : CoreState) (after : ScheduleState) (how outcome : Outcome) (count steps : ℕ)
     → of ≡ start_of code.main → first ≡ new_core options.config
     → RunsSession code options.budget of first left how count
-    → ((next : List Reply → Next) → IsScriptOf code (beginning_of of options.budget first) next → IsTimed next 0 of first options.schedule left after)
+    → (next : List Reply → Next) → IsScriptOf code (beginning_of of options.budget first) next → IsTimed next 0 of first options.schedule left after
     → (options.schedule ≡ Lockstep → GrowsAtTop first left) → IsReported left core → outcome ≡ how → steps ≡ count
     → IsCodeRun code options core outcome steps
-code-run code options of first left core after how outcome count steps of_is first_is runs timed top reported how_is steps_is =
+code-run code options of first left core after how outcome count steps of_is first_is runs next script timed top reported how_is steps_is =
     let start : StartOf = start_of code.main in
     let new : CoreState = new_core options.config in
     let runs_of : RunsSession code options.budget start first left how count = subst (λ (x : StartOf). RunsSession code options.budget x first left how count) of_is runs in
@@ -129,14 +135,11 @@ code-run code options of first left core after how outcome count steps of_is fir
       left = left;
       session = subst (λ (n : ℕ). RunsSession code options.budget start new left outcome n) (sym steps_is) runs_how;
       after = after;
-      timed =
-          subst
-          (λ (s : CoreState). (next : List Reply → Next) → IsScriptOf code (beginning_of start options.budget s) next → IsTimed next 0 start s options.schedule left after)
-          first_is
-          (subst
-          (λ (x : StartOf). (next : List Reply → Next) → IsScriptOf code (beginning_of x options.budget first) next → IsTimed next 0 x first options.schedule left after)
-          of_is
-          timed);
+      next = next;
+      script = subst (λ (s : CoreState). IsScriptOf code (beginning_of start options.budget s) next) first_is
+          (subst (λ (x : StartOf). IsScriptOf code (beginning_of x options.budget first) next) of_is script);
+      timed = subst (λ (s : CoreState). IsTimed next 0 start s options.schedule left after) first_is
+          (subst (λ (x : StartOf). IsTimed next 0 x first options.schedule left after) of_is timed);
       at_top = λ lockstep. subst (λ (s : CoreState). GrowsAtTop s left) first_is (top lockstep);
       reported = reported;
     }

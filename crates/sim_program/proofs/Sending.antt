@@ -1,6 +1,6 @@
 -- A run's core puts its events out before the farthest horizon, and what is told of a link over which they are sent.
-use Rattle.std.proofs.Common.{◌≡◌, ◌≤◌, ◌^◌, ℕ, true, false, Bool, List, [], ◌∷◌, length, map, refl, ap, ◌∙◌, sym, arith, cond}
-use Rattle.std.specs.Prelude.{nat_le, ◌&&◌, filter, Ok, Err, Result, IfOk}
+use Rattle.std.proofs.Common.{◌≡◌, ◌≤◌, ◌^◌, ℕ, true, false, Bool, List, [], ◌∷◌, length, map, refl, ap, arith, cond}
+use Rattle.std.specs.Prelude.{nat_le, filter, Ok, Err, Result, IfOk}
 use Rattle.std.specs.List.{list_all}
 use Rattle.std.proofs.lemmas.Bool.Decides.{nat_tests}
 use Rattle.rtio_types.specs.declared.event.Event.{Event}
@@ -22,9 +22,10 @@ use Rattle.sim_program.specs.declared.run.Run.{Run}
 use Rattle.sim_report.specs.Pending.{pends}
 use Rattle.sim_program.specs.Links.{IsSentAs, TellsLink}
 use Rattle.sim_program.specs.Reports.{finish_of, status_of}
-use Rattle.sim_program.specs.Texts.{IsKernel, IsTextRefused}
-use Rattle.sim_program.specs.Readings.{IsAnswerTo, IsLinkAnswer, IsMainRun, IsReadAs}
-use Rattle.sim_program.proofs.Kernels.{text-not-refused}
+use Rattle.kern_accepted.specs.Texts.{IsKernelText}
+use Rattle.sim_program.specs.Texts.{IsTextRefused}
+use Rattle.sim_program.specs.Readings.{IsAnswerTo, IsLinkAnswer, IsMainRun}
+use Rattle.sim_program.proofs.Refused.{text-not-refused}
 
 -- what stands up to a cycle is up to each later one
 within : (cycle most : ℕ) (events : List (ℕ × Event)) → cycle ≤ most → list_all (λ e. nat_le (cycle_of e) most) (map (λ p. p.1) (filter (λ q. nat_le (cycle_of q.1) cycle) events)) ≡ true
@@ -44,10 +45,10 @@ early core is =
     within core.counter (2 ^ 59) _ (omega (arith, counted, most))
 
 -- what is told of a link, with the finish of the run, tells of the kernel
-pub link-answer : (options : Options) (word : List Letter) (text : Bytes) (program : ProgramTree) (code : Code) (run : Run) (written : List ℕ) (finish : Finish) → IsReadAs text program → IsKernel program → DoesAs program code
+pub link-answer : (options : Options) (word : List Letter) (text : Bytes) (program : ProgramTree) (code : Code) (run : Run) (written : List ℕ) (finish : Finish) → IsKernelText text program → DoesAs program code
     → IsMainRun program code options run.core run.outcome run.steps → IsSentAs word options.config.lanes options.config.depth run.core written → finish ≡ finish_of run.outcome (pends run.core)
     → TellsLink options word text written (status_of finish) × ((told : List ℕ) → IsTextRefused text told → ⊥)
-link-answer options word text program code run written finish read kernel does r sent is = (
+link-answer options word text program code run written finish kernel does r sent is = (
   record {
     core = run.core;
     how = run.outcome;
@@ -55,7 +56,7 @@ link-answer options word text program code run written finish read kernel does r
     steps = run.steps;
     run = record {
       program = program;
-      is_kernel = record { is_text = read.is_text; kernel = kernel };
+      is_kernel = kernel;
       main = code.main;
       left = r.left;
       runs = r.runs;
@@ -65,7 +66,7 @@ link-answer options word text program code run written finish read kernel does r
     sent = sent;
     status_is = ap status_of is;
   },
-  λ told refused. text-not-refused text told program read kernel refused,
+  λ told refused. text-not-refused text told program kernel refused,
 )
 
 linked : (options : Options) (word : List Letter) (text : Bytes) (answer : Answer) → IsLinkAnswer options word text answer → IsAnswerTo (Sat options word) text answer

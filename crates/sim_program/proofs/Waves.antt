@@ -1,5 +1,5 @@
 -- Which bytes have a waveform.
-use Rattle.std.proofs.Common.{◌≡◌, ℕ, List, Bool, true, false, refl, sym, ap, subst, ◌∙◌}
+use Rattle.std.proofs.Common.{◌≡◌, ℕ, List, Bool, true, false, refl, sym, subst, ◌∙◌}
 use Rattle.std.specs.Prelude.{None, Some, Ok, Err, Option}
 use Rattle.core_analyzer.specs.declared.dump.DumpEnd.TheVariants.{Fault, Memory}
 use Rattle.core_analyzer.specs.DumpFields.{first_wrong}

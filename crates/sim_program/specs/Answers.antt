@@ -13,7 +13,8 @@ use Rattle.sim_words.specs.declared.asked.Asked.{Asked}
 use Rattle.sim_words.specs.declared.asked.Asked.TheVariants.{Sim, Generated, Check, Compile}
 use Rattle.sim_words.specs.declared.asked.Asked.TheVariants.{Exec, Gen, Dump, Vcd, Sat, Slack}
 use Rattle.sim_program.specs.declared.report.Form.TheVariants.{Report, Summary, Bytes}
-use Rattle.sim_program.specs.Texts.{IsKernelText, IsTextRefused}
+use Rattle.kern_accepted.specs.Texts.{IsKernelText}
+use Rattle.sim_program.specs.Texts.{IsTextRefused}
 use Rattle.core_analyzer.specs.Dumps.{Dumped}
 use Rattle.sim_program.specs.Images.{IsAcceptedImage, IsImageRefused}
 use Rattle.sim_program.specs.Waves.{DrawsWave, IsDumpRefused, IsWaveDump}

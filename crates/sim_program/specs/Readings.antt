@@ -12,8 +12,7 @@ use Rattle.core_session.specs.Scripts.{IsScriptOf, Next}
 use Rattle.core_session.specs.Sessions.{RunsSession, beginning_of}
 use Rattle.core_session.specs.Timed.{IsTimed}
 use Rattle.kern_syntax.specs.Tree.{Bytes, ProgramTree}
-use Rattle.kern_syntax.specs.TreeOf.{tree_of}
-use Rattle.kern_types.specs.Programs.{IsTyped}
+use Rattle.kern_accepted.specs.Texts.{IsNoKernelText}
 use Rattle.core_isa.specs.declared.code.Code.{Code}
 use Rattle.core_isa.specs.Marks.{Marked}
 use Rattle.core_image.specs.Accepted.{MainTakesNothing}
@@ -23,13 +22,7 @@ use Rattle.sim_program.specs.declared.answer.Answer.{Answer}
 use Rattle.sim_program.specs.declared.answer.Answer.TheVariants as answer
 use Rattle.sim_program.specs.declared.image.Image.{Image}
 use Rattle.sim_program.specs.declared.image.Image.TheVariants as image
-use Rattle.sim_program.specs.declared.kernel.Kernel.{Kernel}
-use Rattle.sim_program.specs.declared.kernel.Kernel.TheVariants as kernel
-use Rattle.sim_program.specs.declared.kernel.Accepted.{Accepted}
-use Rattle.sim_program.specs.declared.kernel.Accepted.TheVariants as accepted
-use Rattle.sim_program.specs.declared.kernel.Built.{Built}
-use Rattle.sim_program.specs.declared.kernel.Built.TheVariants as built
-use Rattle.sim_program.specs.Texts.{IsKernel, IsKernelText, IsProgramRefused, IsTextOf, IsTextRefused}
+use Rattle.sim_program.specs.Texts.{IsTextRefused}
 use Rattle.sim_program.specs.Images.{IsAcceptedImage, IsImageRefused}
 use Rattle.core_analyzer.specs.DumpFields.{first_wrong}
 use Rattle.core_analyzer.specs.Dumps.{Dumped, IsSpelling}
@@ -45,40 +38,6 @@ use Rattle.sim_report.specs.Pending.{pends}
 use Rattle.sim_program.specs.Reports.{Tells, finish_of, status_of, told_text}
 use Rattle.lab_io.specs.declared.source.ReadEnd.TheVariants.{Memory}
 use Rattle.sim_program.specs.Answers.{Has, IsBad, IsDue, IsRefused, IsTaken, Origin, Reads}
-
--- the program is the only one that the text has
-pub record IsReadAs (text : Bytes) (program : ProgramTree) : Type 0 where
-  pub is_text : IsTextOf text program
-  pub only : (other : ProgramTree) → IsTextOf text other → program ≡ other
-
--- no accepted kernel has the text
-abbrev pub IsNoKernelText : Bytes → Type 0
-IsNoKernelText text = (program : ProgramTree) → ¬ IsKernelText text program
-
--- a text was read as a typed program, or it is refused
-abbrev pub IsKernelOf : Bytes → Kernel → Type 0
-IsKernelOf text (kernel.Typed checked) = IsReadAs text (tree_of checked) × IsTyped (tree_of checked)
-IsKernelOf text (kernel.Refused told) = IsTextRefused text told.items × IsNoKernelText text
-
--- a program is typed, or it is refused
-abbrev pub IsTypedAs : ProgramTree → Kernel → Type 0
-IsTypedAs program (kernel.Typed checked) = (tree_of checked ≡ program) × IsTyped program
-IsTypedAs program (kernel.Refused told) = IsProgramRefused program told.items
-
--- a text was read as an accepted kernel, or it is refused
-abbrev pub IsAcceptedOf : Bytes → Accepted → Type 0
-IsAcceptedOf text (accepted.Kernel checked) = IsReadAs text (tree_of checked) × IsKernel (tree_of checked)
-IsAcceptedOf text (accepted.Refused told) = IsTextRefused text told.items × IsNoKernelText text
-
--- a text was read as a kernel and compiled, or it is refused
-abbrev pub IsBuiltOf : Bytes → Built → Type 0
-IsBuiltOf text (built.Ready compiled) = IsReadAs text (tree_of compiled.0) × IsKernel (tree_of compiled.0)
-IsBuiltOf text (built.Refused told) = IsTextRefused text told.items × IsNoKernelText text
-
--- a typed program was compiled, or it is refused
-abbrev pub IsBuiltAs : ProgramTree → Built → Type 0
-IsBuiltAs program (built.Ready compiled) = (tree_of compiled.0 ≡ program) × IsKernel program
-IsBuiltAs program (built.Refused told) = IsProgramRefused program told.items
 
 -- bytes are the image of accepted code, or they are refused
 abbrev pub IsImageOf : (bytes : List ℕ) → Image → Type 0
@@ -108,14 +67,14 @@ pub record IsMainRun (program : ProgramTree) (code : Code) (options : Options) (
   pub counted : RunsSession code options.budget (start_of code.main) (new_core options.config) left how steps
   pub reported : IsReported left core
 
--- a run of the main function of accepted code leaves this core
+-- a run of the main function of accepted code leaves this core, by the script of its runs
 pub record IsCodeRun (code : Code) (options : Options) (core : CoreState) (how : Outcome) (steps : ℕ) : Type 0 where
   pub left : CoreState
   pub session : RunsSession code options.budget (start_of code.main) (new_core options.config) left how steps
   pub after : ScheduleState
-  pub timed : (next : List Reply → Next)
-      → IsScriptOf code (beginning_of (start_of code.main) options.budget (new_core options.config)) next
-      → IsTimed next 0 (start_of code.main) (new_core options.config) options.schedule left after
+  pub next : List Reply → Next
+  pub script : IsScriptOf code (beginning_of (start_of code.main) options.budget (new_core options.config)) next
+  pub timed : IsTimed next 0 (start_of code.main) (new_core options.config) options.schedule left after
   pub at_top : options.schedule ≡ Lockstep → GrowsAtTop (new_core options.config) left
   pub reported : IsReported left core
 

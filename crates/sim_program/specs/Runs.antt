@@ -16,7 +16,7 @@ use Rattle.core_session.specs.Sessions.{RunsSession, beginning_of}
 use Rattle.core_session.specs.Timed.{IsTimed, drained}
 use Rattle.kernel_session.specs.Meant.{MeansSession, script_of}
 use Rattle.sim_words.specs.declared.asked.Options.{Options}
-use Rattle.sim_program.specs.Texts.{IsKernelText}
+use Rattle.kern_accepted.specs.Texts.{IsKernelText}
 use Rattle.sim_program.specs.Images.{IsAcceptedImage}
 
 -- what the session runs: a function of source 0, without arguments, for the first step of run 0
@@ -66,7 +66,8 @@ pub record RunsKernel (options : Options) (text : List ℕ) (core : CoreState) (
   pub reported : IsReported left core
 
 -- a run of the accepted code whose image the bytes are leaves this core: the session's
--- requests, outcome and cursor are those of the code's run under its replies
+-- requests, outcome and cursor are those of the code's run under its replies, and history and
+-- counter are the ones that the options' schedule makes of the script of the code's runs, step by step
 pub record RunsImage (options : Options) (bytes : List ℕ) (core : CoreState) (how : Outcome) (size steps : ℕ) : Type 0 where
   pub code : Code
   pub accepted : IsAcceptedImage bytes code
@@ -74,8 +75,8 @@ pub record RunsImage (options : Options) (bytes : List ℕ) (core : CoreState) (
   pub left : CoreState
   pub session : RunsSession code options.budget (start_of code.main) (new_core options.config) left how steps
   pub after : ScheduleState
-  pub timed : (next : List Reply → Next)
-      → IsScriptOf code (beginning_of (start_of code.main) options.budget (new_core options.config)) next
-      → IsTimed next 0 (start_of code.main) (new_core options.config) options.schedule left after
+  pub next : List Reply → Next
+  pub script : IsScriptOf code (beginning_of (start_of code.main) options.budget (new_core options.config)) next
+  pub timed : IsTimed next 0 (start_of code.main) (new_core options.config) options.schedule left after
   pub at_top : options.schedule ≡ Lockstep → GrowsAtTop (new_core options.config) left
   pub reported : IsReported left core

@@ -4,7 +4,7 @@ use Rattle.kern_syntax.specs.Tree.{ProgramTree}
 use Rattle.slack_meaning.specs.declared.verdict.Verdict.TheVariants.{Yes}
 use Rattle.slack_check.specs.Lines.{slack_line}
 use Rattle.slack_check.specs.Mains.{MainNeverUnderflows, verdict_of_main}
-use Rattle.sim_program.specs.Texts.{IsKernelText}
+use Rattle.kern_accepted.specs.Texts.{IsKernelText}
 
 -- the bytes are the line of the verdict on the kernel that the text is, at a cost of a request and for lanes that take
 -- so many events at least. Where it is a yes, no output of the kernel's first session on such a core comes too late

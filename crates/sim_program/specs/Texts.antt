@@ -1,38 +1,15 @@
--- Kernel texts and their programs; the err lines of other texts.
-use Rattle.std.specs.Prelude.{◌≡◌, ℕ, ◌≤◌, ◌<◌, List, ◌++◌, slice_get, Some, codes, decimal}
-use Rattle.kern_lexer.specs.Answers.{HasTokens, HasFault}
-use Rattle.kern_lexer.specs.Faults.{LexFault}
-use Rattle.kern_lexer.specs.Symbols.{lexemes_of}
+-- The err lines of texts that are no accepted kernel's.
+use Rattle.std.specs.Prelude.{◌≡◌, ℕ, ◌++◌, codes, decimal}
 use Rattle.kern_lexer.specs.declared.fault.LexKind.{LexKind}
 use Rattle.kern_lexer.specs.declared.fault.LexKind.TheVariants as K
-use Rattle.kern_lexer.specs.declared.token.Token.{Token}
-use Rattle.kern_syntax.specs.Tree.{Bytes, ProgramTree}
-use Rattle.kern_syntax.specs.Nodes.{program_nodes, shown}
-use Rattle.kern_grammar.specs.Accepted.{HasTree, IsFirstFault}
+use Rattle.kern_syntax.specs.Tree.{Bytes}
 use Rattle.kern_expression_types.specs.declared.fault.TypeKind.{TypeKind}
 use Rattle.kern_expression_types.specs.declared.fault.TypeKind.TheVariants as T
-use Rattle.kern_types.specs.Programs.{IsTyped, program_verdict}
-use Rattle.kern_expression_types.specs.Verdicts as V
-
--- the bytes have tokens, and these have the program as their tree
-pub record IsTextOf (text : Bytes) (program : ProgramTree) : Type 0 where
-  pub tokens : List Token
-  pub lexed : HasTokens text tokens
-  pub parsed : HasTree (lexemes_of text tokens) program
-
--- the most nodes of a program
-abbrev pub most_nodes : ℕ
-most_nodes = 16384
-
--- a program is typed and has no more nodes than it may
-pub record IsKernel (program : ProgramTree) : Type 0 where
-  pub typed : IsTyped program
-  pub small : program_nodes program ≤ most_nodes
-
--- the bytes are the text of an accepted kernel
-pub record IsKernelText (text : Bytes) (program : ProgramTree) : Type 0 where
-  pub is_text : IsTextOf text program
-  pub kernel : IsKernel program
+use Rattle.kern_accepted.specs.Refusals.{IsRefusedFor}
+use Rattle.kern_accepted.specs.declared.end.KernelEnd.{KernelEnd}
+use Rattle.kern_accepted.specs.declared.end.KernelEnd.TheVariants as E
+use Rattle.kern_accepted.specs.declared.end.Refusal.{Refusal}
+use Rattle.kern_accepted.specs.declared.end.Refusal.TheVariants as R
 
 -- the name of a kind of fault
 abbrev pub kind_text : LexKind → Bytes
@@ -74,14 +51,20 @@ type_line line kind = codes "type " ++ decimal line ++ codes " " ++ type_kind_te
 abbrev pub code_line : ℕ → Bytes
 code_line count = codes "code " ++ decimal count ++ codes "\n"
 
--- why a program is no accepted kernel, and the line that says so
-pub data IsProgramRefused (program : ProgramTree) (told : Bytes) : Type 0 where
-  ill : (line : ℕ) (kind : TypeKind) → program_verdict program ≡ V.fault line kind → told ≡ type_line line kind → IsProgramRefused program told
-  large : IsTyped program → most_nodes < program_nodes program → told ≡ code_line (shown (program_nodes program)) → IsProgramRefused program told
+-- the line of a text that is refused
+abbrev pub text_line : Refusal → Bytes
+text_line (R.Tokens at kind) = lex_line at kind
+text_line (R.Tree token at) = syntax_line token at
+text_line (R.Types line kind) = type_line line kind
+text_line (R.Nodes count) = code_line count
+
+-- a line says why there is no kernel; want of memory has none
+abbrev pub IsLineOfEnd : KernelEnd → (told : Bytes) → Type 0
+IsLineOfEnd (E.Refused refusal) told = told ≡ text_line refusal
+IsLineOfEnd E.Memory told = ⊥
 
 -- why a text is no accepted kernel's, and the line that says so
-pub data IsTextRefused (text : Bytes) (told : Bytes) : Type 0 where
-  no_tokens : (fault : LexFault) → HasFault text fault → told ≡ lex_line fault.at fault.kind → IsTextRefused text told
-  no_tree : (tokens : List Token) → HasTokens text tokens → (place : ℕ) (token : Token)
-      → IsFirstFault (lexemes_of text tokens) place → slice_get tokens place ≡ Some token → told ≡ syntax_line place token.at → IsTextRefused text told
-  no_kernel : (program : ProgramTree) → IsTextOf text program → IsProgramRefused program told → IsTextRefused text told
+pub record IsTextRefused (text : Bytes) (told : Bytes) : Type 0 where
+  pub refusal : Refusal
+  pub why : IsRefusedFor text refusal
+  pub line : told ≡ text_line refusal

@@ -4,18 +4,19 @@ ghost use Rattle.kern_syntax.specs.TreeOf.{tree_of};
 ghost use Rattle.rtio_core.specs.Entries.{is_config_ok};
 ghost use Rattle.sim_report.specs.Ends.{HasEnded};
 ghost use Rattle.sim_words.specs.Asked.{IsAccepted};
-ghost use Rattle.sim_program.specs.Readings.{IsAnswerTo, IsLinkAnswer, IsReadAs, IsRunAnswer, TellsOf};
-ghost use Rattle.sim_program.specs.Texts.{IsKernel};
+ghost use Rattle.kern_accepted.specs.Texts.{IsKernelText};
+ghost use Rattle.sim_program.specs.Readings.{IsAnswerTo, IsLinkAnswer, IsRunAnswer, TellsOf};
 
 use crate::finish::{Finish, finish_of};
 use crate::image::{Image, image_of};
-use crate::kernel::{Accepted, Built, accepted_of, built_of};
 use crate::link::lines_of;
+use crate::refusal::line_of_end;
 use crate::report::{Form, text_of};
 use crate::run::{Run, run_image, run_main};
 use crate::wave::{Wave, wave_of};
 use core_code::Compiled;
 use core_image::encode;
+use kern_accepted::{accept, compile_text};
 use kern_syntax::print;
 use sat_rounds::LinkWord;
 use sim_report::pends;
@@ -69,9 +70,9 @@ fn answer_by_run(
     requires short { length text.now < 2 ^ 31 }
     ensures { IfOk result (λ answer. IsRunAnswer options form text.now answer) }
 {
-    match built_of(alloc, text)? {
-        Built::Refused(line) => Ok(Answer::Refused(line)),
-        Built::Ready(compiled) => answer_of_kernel(alloc, &compiled, options, form),
+    match compile_text(alloc, text) {
+        Ok(compiled) => answer_of_kernel(alloc, &compiled, options, form),
+        Err(end) => Ok(Answer::Refused(line_of_end(alloc, end)?)),
     }
 }
 
@@ -84,7 +85,7 @@ fn answer_of_kernel(
 ) -> Result<Answer, AllocError>
     requires config { IsTrue (is_config_ok options.config) }
     requires units { options.budget ≤ 1000000 }
-    ensures { (text : List ℕ) → IsReadAs text (tree_of compiled.now.0) → IsKernel (tree_of compiled.now.0)
+    ensures { (text : List ℕ) → IsKernelText text (tree_of compiled.now.0)
         → IfOk result (λ answer. IsRunAnswer options form text answer) }
 {
     let budget = options.budget;
@@ -105,9 +106,9 @@ fn answer_by_link(
     requires short { length text.now < 2 ^ 31 }
     ensures { IfOk result (λ answer. IsLinkAnswer options word.now text.now answer) }
 {
-    match built_of(alloc, text)? {
-        Built::Refused(line) => Ok(Answer::Refused(line)),
-        Built::Ready(compiled) => answer_of_link(alloc, &compiled, options, word),
+    match compile_text(alloc, text) {
+        Ok(compiled) => answer_of_link(alloc, &compiled, options, word),
+        Err(end) => Ok(Answer::Refused(line_of_end(alloc, end)?)),
     }
 }
 
@@ -120,7 +121,7 @@ fn answer_of_link(
 ) -> Result<Answer, AllocError>
     requires config { IsTrue (is_config_ok options.config) }
     requires units { options.budget ≤ 1000000 }
-    ensures { (text : List ℕ) → IsReadAs text (tree_of compiled.now.0) → IsKernel (tree_of compiled.now.0)
+    ensures { (text : List ℕ) → IsKernelText text (tree_of compiled.now.0)
         → IfOk result (λ answer. IsLinkAnswer options word.now text answer) }
 {
     let lanes = options.config.lanes;
@@ -140,12 +141,12 @@ fn answer_by_text(alloc: Global, text: &[u8]) -> Result<Answer, AllocError>
     requires { length text.now < 2 ^ 31 }
     ensures { IfOk result (λ answer. IsAnswerTo Asked.Check text.now answer) }
 {
-    match accepted_of(alloc, text)? {
-        Accepted::Refused(line) => Ok(Answer::Refused(line)),
-        Accepted::Kernel(checked) => Ok(Answer::Due {
+    match accept(alloc, text) {
+        Ok(checked) => Ok(Answer::Due {
             bytes: print(alloc, checked.program())?,
             finish: Finish::Whole,
         }),
+        Err(end) => Ok(Answer::Refused(line_of_end(alloc, end)?)),
     }
 }
 
@@ -156,15 +157,15 @@ fn answer_by_slack(alloc: Global, text: &[u8], cost: u64, depth: u32) -> Result<
     requires short { length text.now < 2 ^ 31 }
     ensures { IfOk result (λ answer. IsAnswerTo (Asked.Slack cost depth) text.now answer) }
 {
-    match accepted_of(alloc, text)? {
-        Accepted::Refused(line) => Ok(Answer::Refused(line)),
-        Accepted::Kernel(checked) => {
+    match accept(alloc, text) {
+        Ok(checked) => {
             let verdict = slack(alloc, &checked, cost, depth)?;
             Ok(Answer::Due {
                 bytes: slack_line(alloc, verdict)?,
                 finish: Finish::Whole,
             })
         }
+        Err(end) => Ok(Answer::Refused(line_of_end(alloc, end)?)),
     }
 }
 
@@ -173,12 +174,12 @@ fn answer_by_image(alloc: Global, text: &[u8]) -> Result<Answer, AllocError>
     requires { length text.now < 2 ^ 31 }
     ensures { IfOk result (λ answer. IsAnswerTo Asked.Compile text.now answer) }
 {
-    match built_of(alloc, text)? {
-        Built::Refused(line) => Ok(Answer::Refused(line)),
-        Built::Ready(compiled) => Ok(Answer::Due {
+    match compile_text(alloc, text) {
+        Ok(compiled) => Ok(Answer::Due {
             bytes: encode(alloc, compiled.code().code())?,
             finish: Finish::Whole,
         }),
+        Err(end) => Ok(Answer::Refused(line_of_end(alloc, end)?)),
     }
 }
 

@@ -5,7 +5,6 @@
 mod answer;
 mod finish;
 mod image;
-mod kernel;
 mod link;
 mod refusal;
 mod report;
@@ -14,7 +13,6 @@ mod top;
 mod wave;
 
 pub use finish::{Finish, finish_of, status_of};
-pub use kernel::{Kernel, kernel_of};
-pub use refusal::code_refusal;
+pub use refusal::line_of_end;
 pub use run::{Run, run_main};
 pub use top::{sim_top, without_memory};

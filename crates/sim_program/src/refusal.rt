@@ -1,15 +1,38 @@
 // The lines that say why a text, an image or a dump is refused.
 ghost use Rattle.std.specs.Prelude.{◌≡◌, IfOk};
 ghost use Rattle.sim_program.specs.Images.{bad_code_line, image_line};
-ghost use Rattle.sim_program.specs.Texts.{code_line, kind_text, lex_line, syntax_line, type_kind_text, type_line};
+ghost use Rattle.sim_program.specs.Texts.{IsLineOfEnd, code_line, kind_text, lex_line, syntax_line, text_line, type_kind_text, type_line};
 ghost use Rattle.sim_program.specs.Waves.{dump_line, early_line};
 
+use kern_accepted::{KernelEnd, Refusal};
 use kern_lexer::LexKind;
 use kern_types::TypeKind;
 use std::alloc::{AllocError, Global};
 
-/// `lex AT KIND`: the place of the first fault of a text without tokens, in bytes, and its kind.
-pub fn lex_refusal(alloc: Global, at: u32, kind: LexKind) -> Result<Vec<u8>, AllocError>
+/// The line that says why a text is no accepted kernel's; none where memory ran out before that was known.
+pub fn line_of_end(alloc: Global, end: KernelEnd) -> Result<Vec<u8>, AllocError>
+    ensures { IfOk result (λ line. IsLineOfEnd end line.items) }
+{
+    match end {
+        KernelEnd::Refused(refusal) => text_refusal(alloc, refusal),
+        KernelEnd::Memory => Err(AllocError),
+    }
+}
+
+// The line that says why a text is refused.
+fn text_refusal(alloc: Global, refusal: Refusal) -> Result<Vec<u8>, AllocError>
+    ensures { IfOk result (λ line. line.items ≡ text_line refusal) }
+{
+    match refusal {
+        Refusal::Tokens { at, kind } => lex_refusal(alloc, at, kind),
+        Refusal::Tree { token, at } => syntax_refusal(alloc, token, at),
+        Refusal::Types { line, kind } => type_refusal(alloc, line, kind),
+        Refusal::Nodes { count } => code_refusal(alloc, count),
+    }
+}
+
+// `lex AT KIND`: the place of the first fault of a text without tokens, in bytes, and its kind.
+fn lex_refusal(alloc: Global, at: u32, kind: LexKind) -> Result<Vec<u8>, AllocError>
     ensures { IfOk result (λ line. line.items ≡ lex_line at kind) }
 {
     let mut line = String::new(alloc);
@@ -32,8 +55,8 @@ fn kind_name(kind: LexKind) -> &'static str
     }
 }
 
-/// `syntax TOKEN AT`: the number of the first wrong token, from 0, and its place in bytes.
-pub fn syntax_refusal(alloc: Global, token: u32, at: u32) -> Result<Vec<u8>, AllocError>
+// `syntax TOKEN AT`: the number of the first wrong token, from 0, and its place in bytes.
+fn syntax_refusal(alloc: Global, token: u32, at: u32) -> Result<Vec<u8>, AllocError>
     ensures { IfOk result (λ line. line.items ≡ syntax_line token at) }
 {
     let mut line = String::new(alloc);
@@ -41,8 +64,8 @@ pub fn syntax_refusal(alloc: Global, token: u32, at: u32) -> Result<Vec<u8>, All
     Ok(line.into_bytes())
 }
 
-/// `type LINE KIND`: the line of the first fault of a program that isn't typed, from 1, and its kind.
-pub fn type_refusal(alloc: Global, at: u32, kind: TypeKind) -> Result<Vec<u8>, AllocError>
+// `type LINE KIND`: the line of the first fault of a program that isn't typed, from 1, and its kind.
+fn type_refusal(alloc: Global, at: u32, kind: TypeKind) -> Result<Vec<u8>, AllocError>
     ensures { IfOk result (λ line. line.items ≡ type_line at kind) }
 {
     let mut line = String::new(alloc);
@@ -71,8 +94,8 @@ fn type_kind_name(kind: TypeKind) -> &'static str
     }
 }
 
-/// `code NODES`: the number of nodes of a program that has too many.
-pub fn code_refusal(alloc: Global, count: u64) -> Result<Vec<u8>, AllocError>
+// `code NODES`: the number of nodes of a program that has too many.
+fn code_refusal(alloc: Global, count: u64) -> Result<Vec<u8>, AllocError>
     ensures { IfOk result (λ line. line.items ≡ code_line count) }
 {
     let mut line = String::new(alloc);

@@ -8,7 +8,7 @@ ghost use Rattle.sim_program.specs.Runs.{IsReported, start_of};
 
 use core_code::Compiled;
 use core_image::Verified;
-use core_session::{Ran, SessionEnd, drain_core, run_code};
+use core_session::{Ran, SessionEnd, drain_core, run_code, runs_have_scripts};
 use kernel_session::run_session;
 use rtio_core::{Core, StartOf};
 use rtio_headline::what_is_put_out_was_submitted;
@@ -59,6 +59,7 @@ pub fn run_image(alloc: Global, code: &Verified, options: Options) -> Result<Run
     ensures ended { IfOk result (λ run. HasEnded run.core.history) }
     ensures few { IfOk result (λ run. length run.core.history ≤ options.budget + 2) }
 {
+    runs_have_scripts();
     let main = code.code().main;
     let mut schedule = options.schedule;
     let mut core = Core::new(alloc, options.config)?;

@@ -1,17 +1,16 @@
-use Rattle.std.proofs.Common.{refl, ap, ◌∙◌}
+use Rattle.std.proofs.Common.{refl}
 use Rattle.kern_syntax.specs.TreeOf.{tree_of}
-use Rattle.slack_check.specs.Lines.{slack_line}
-use Rattle.sim_program.proofs.Answering.{not-taken, told-verdict}
+use Rattle.sim_program.proofs.Answering.{told-verdict}
+use Rattle.sim_program.proofs.Refused.{refused}
 use Rattle.sim_program.proofs.answer.answer_by_slack.Goals as goal
 
-pub returns-in-Refused : goal.returns-in-Refused
-returns-in-Refused c =
-    let h = rw c.in-Refused.is at c.in_ok-line.ensures in
-    (h.0, not-taken c.args.text.now h.1)
-
-pub returns-in_ok-slack_line-in-Kernel : goal.returns-in_ok-slack_line-in-Kernel
-returns-in_ok-slack_line-in-Kernel c =
-    let read = rw c.in-Kernel.is at c.in_ok-line.ensures in
-    let all = told-verdict c.args.cost c.args.depth c.args.text.now c.in_ok-slack_line-in-Kernel.field-0.items (tree_of c.in-Kernel.checked) c.in_ok-verdict-in-Kernel.verdict
-    read.0 read.1 c.in_ok-verdict-in-Kernel.ensures.verdict c.in_ok-verdict-in-Kernel.ensures.yes c.in_ok-slack_line-in-Kernel.ensures in
+pub returns-in_ok-slack_line-in-Ok : goal.returns-in_ok-slack_line-in-Ok
+returns-in_ok-slack_line-in-Ok c =
+    let all = told-verdict c.args.cost c.args.depth c.args.text.now c.in_ok-slack_line-in-Ok.field-0.items (tree_of c.in-Ok.checked) c.in_ok-verdict-in-Ok.verdict
+    c.in-Ok.ensures.kernel c.in_ok-verdict-in-Ok.ensures.verdict c.in_ok-verdict-in-Ok.ensures.yes c.in_ok-slack_line-in-Ok.ensures in
     ((all.0, refl), all.1, λ told bad. bad)
+
+pub returns-in_ok-line_of_end-in-Err : goal.returns-in_ok-line_of_end-in-Err
+returns-in_ok-line_of_end-in-Err c =
+    let h = refused c.args.text.now c.in_ok-line_of_end-in-Err.field-0.items c.in-Err.end c.in-Err.ensures.end c.in_ok-line_of_end-in-Err.ensures in
+    (h.0, λ taken. h.1 taken.0 taken.1)

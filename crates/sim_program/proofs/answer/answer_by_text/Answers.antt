@@ -2,17 +2,17 @@ use Rattle.std.proofs.Common.{refl, ap, ◌∙◌}
 use Rattle.kern_syntax.specs.Print.{program_text}
 use Rattle.kern_syntax.specs.Tree.{ProgramTree}
 use Rattle.kern_syntax.specs.TreeOf.{tree_of}
-use Rattle.sim_program.proofs.Answering.{not-taken, printed}
+use Rattle.sim_program.proofs.Answering.{printed}
+use Rattle.sim_program.proofs.Refused.{refused}
 use Rattle.sim_program.proofs.answer.answer_by_text.Goals as goal
 
-pub returns-in-Refused : goal.returns-in-Refused
-returns-in-Refused c =
-    let h = rw c.in-Refused.is at c.in_ok-line.ensures in
-    (h.0, not-taken c.args.text.now h.1)
-
-pub returns-in_ok-print-in-Kernel : goal.returns-in_ok-print-in-Kernel
-returns-in_ok-print-in-Kernel c =
-    let read = rw c.in-Kernel.is at c.in_ok-line.ensures in
-    let text = c.in_ok-print-in-Kernel.ensures ∙ ap (λ (p : ProgramTree). program_text p) (ap tree_of c.program.ensures.kept) in
-    let all = printed c.args.text.now c.in_ok-print-in-Kernel.field-0.items (tree_of c.in-Kernel.checked) read.0 read.1 text in
+pub returns-in_ok-print-in-Ok : goal.returns-in_ok-print-in-Ok
+returns-in_ok-print-in-Ok c =
+    let text = c.in_ok-print-in-Ok.ensures ∙ ap (λ (p : ProgramTree). program_text p) (ap tree_of c.program.ensures.kept) in
+    let all = printed c.args.text.now c.in_ok-print-in-Ok.field-0.items (tree_of c.in-Ok.checked) c.in-Ok.ensures.kernel text in
     ((all.0, refl), all.1, λ told bad. bad)
+
+pub returns-in_ok-line_of_end-in-Err : goal.returns-in_ok-line_of_end-in-Err
+returns-in_ok-line_of_end-in-Err c =
+    let h = refused c.args.text.now c.in_ok-line_of_end-in-Err.field-0.items c.in-Err.end c.in-Err.ensures.end c.in_ok-line_of_end-in-Err.ensures in
+    (h.0, λ taken. h.1 taken.0 taken.1)
