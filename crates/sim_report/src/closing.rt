@@ -7,6 +7,7 @@ ghost use Rattle.sim_report.specs.Lines.{code_line, end_line, end_lines, lanes_l
 ghost use Rattle.sim_report.specs.Names.{exception_name};
 ghost use Rattle.sim_report.specs.Report.{closing_text};
 
+use crate::numbers::write_spaced;
 use rtio_core::{Act, Core, Entry};
 use rtio_types::{Exc, Outcome, reading};
 use std::alloc::AllocError;
@@ -34,8 +35,7 @@ fn write_lanes(text: &mut String, peaks: &[u32]) -> Result<(), AllocError>
 {
     text.push_str("lanes")?;
     for peak in peaks {
-        let peak = *peak;
-        write!(text, " {peak}")?;
+        write_spaced(text, *peak)?;
     }
     text.push_str("\n")
 }

@@ -6,6 +6,7 @@ ghost use Rattle.sim_report.specs.Lines.{data_line, listed, value_text};
 ghost use Rattle.sim_report.specs.Places.{ArePlaces, set_at};
 
 use crate::key::{Key, text_of};
+use crate::numbers::write_number;
 use indexmap::IndexMap;
 use rtio_core::{Act, Entry};
 use rtio_types::{Name, Request, Value};
@@ -72,7 +73,7 @@ pub fn write_value(text: &mut String, value: &Value) -> Result<(), AllocError>
     ensures { OnOk result (string_bytes text.new ≡ string_bytes text.old ++ value_text value.now) }
 {
     match value {
-        Value::Int(number) => write!(text, "{number}"),
+        Value::Int(number) => write_number(text, *number),
         Value::List(list) => {
             text.push_str("[")?;
             write_numbers(text, list.items())?;
@@ -88,9 +89,10 @@ fn write_numbers(text: &mut String, numbers: &[i64]) -> Result<(), AllocError>
     let Some((first, rest)) = numbers.split_first() else {
         return Ok(());
     };
-    write!(text, "{first}")?;
+    write_number(text, *first)?;
     for number in rest {
-        write!(text, ",{number}")?;
+        text.push_str(",")?;
+        write_number(text, *number)?;
     }
     Ok(())
 }

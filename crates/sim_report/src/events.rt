@@ -8,6 +8,7 @@ ghost use Rattle.sim_report.specs.Lines.{count_line, event_fields, event_line, l
 ghost use Rattle.sim_report.specs.Report.{log_counts, log_text};
 
 use crate::kinds::is_kind;
+use crate::numbers::write_spaced;
 use rtio_log::{LogKind, LogLine};
 use rtio_types::Event;
 use std::alloc::AllocError;
@@ -35,13 +36,11 @@ fn write_event(text: &mut String, word: &str, event: Event) -> Result<(), AllocE
 fn write_fields(text: &mut String, event: Event) -> Result<(), AllocError>
     ensures { OnOk result (string_bytes text.new ≡ string_bytes text.old ++ event_fields event) }
 {
-    let Event {
-        channel,
-        address,
-        value,
-        stamp,
-    } = event;
-    writeln!(text, " {stamp} {channel} {address} {value}")
+    write_spaced(text, event.stamp)?;
+    write_spaced(text, event.channel)?;
+    write_spaced(text, event.address)?;
+    write_spaced(text, event.value)?;
+    text.push_str("\n")
 }
 
 /// Appends the lines of a log: `seq`, `col`, `busy` and `rst`, kind by kind. The only error is want of memory.
@@ -75,10 +74,11 @@ fn write_kind(
 fn write_line(text: &mut String, word: &str, line: LogLine) -> Result<(), AllocError>
     ensures { OnOk result (string_bytes text.new ≡ string_bytes text.old ++ log_line word.now (line.number, line.event)) }
 {
-    let number = line.number;
-    let stamp = line.event.stamp;
-    let channel = line.event.channel;
-    writeln!(text, "{word} {number} {stamp} {channel}")
+    text.push_str(word)?;
+    write_spaced(text, line.number)?;
+    write_spaced(text, line.event.stamp)?;
+    write_spaced(text, line.event.channel)?;
+    text.push_str("\n")
 }
 
 /// Appends how many lines of each kind the log has.
@@ -108,5 +108,7 @@ fn count_of(log: &[LogLine], kind: LogKind) -> usize
 pub fn write_count(text: &mut String, word: &str, count: usize) -> Result<(), AllocError>
     ensures { OnOk result (string_bytes text.new ≡ string_bytes text.old ++ count_line word.now count) }
 {
-    writeln!(text, "{word} {count}")
+    text.push_str(word)?;
+    write_spaced(text, count)?;
+    text.push_str("\n")
 }

@@ -7,6 +7,7 @@ mod datasets;
 mod events;
 mod key;
 mod kinds;
+mod numbers;
 mod pending;
 mod recordings;
 mod steps;
