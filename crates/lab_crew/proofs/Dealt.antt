@@ -11,7 +11,7 @@ use Rattle.rtio_core.specs.declared.data.Act.{Act}
 use Rattle.rtio_core.specs.declared.data.Config.{Config}
 use Rattle.sched_state.specs.declared.entry.SchedAct.{SchedAct}
 use Rattle.desk_kernels.specs.Chairs.{CoreChair}
-use Rattle.lab_workers.specs.declared.desks.Desks.{Desks}
+use Rattle.worker_desks.specs.declared.desks.Desks.{Desks}
 use Rattle.lab_workers.specs.Workers.{IsFree, SchedChair, WorkerValue}
 use Rattle.lab_crew.specs.declared.member.Member.{Member}
 use Rattle.lab_desks.specs.Columns.{HasRoom, Row, TakesLast, column, columns_of, fronts, items_of}

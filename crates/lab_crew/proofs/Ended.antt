@@ -5,7 +5,7 @@ use Rattle.std.specs.List.{All, AllByRecursion, AllZip}
 use Rattle.std.proofs.lemmas.List.Elements.{recursion_from_All}
 use Rattle.std.proofs.lemmas.Bool.{cases_lt}
 use Rattle.desk_rule.specs.Histories.{Each}
-use Rattle.lab_workers.specs.declared.desks.Desks.{Desks}
+use Rattle.worker_desks.specs.declared.desks.Desks.{Desks}
 use Rattle.lab_workers.specs.declared.worker.WorkEnd.TheVariants.{Finished}
 use Rattle.lab_workers.specs.Workers.{IsWorkerAt, WorkerValue}
 use Rattle.lab_crew.specs.declared.member.Member.{Member}

@@ -18,7 +18,7 @@ use Rattle.lab_workers.specs.Acts.{sched_acts}
 use Rattle.lab_workers.specs.Finished.{IsFinishedSched}
 use Rattle.lab_workers.specs.Judged.{IsJudged}
 use Rattle.lab_workers.specs.Laws.{JudgementsLast}
-use Rattle.lab_workers.specs.declared.desks.Desks.{Desks}
+use Rattle.worker_desks.specs.declared.desks.Desks.{Desks}
 use Rattle.lab_workers.specs.Workers.{SchedChair, WorkerValue, is_halt, sched_entries}
 use Rattle.lab_workers.proofs.Entries.{sched-further}
 use Rattle.lab_desks.specs.Closed.{IsClosedSched}

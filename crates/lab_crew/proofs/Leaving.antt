@@ -11,7 +11,7 @@ use Rattle.desk.specs.Closing.{HasNumber}
 use Rattle.desk.specs.Seated.{Opened}
 use Rattle.rtio_core.specs.declared.data.Config.{Config}
 use Rattle.desk_kernels.specs.Chairs.{CoreChair}
-use Rattle.lab_workers.specs.declared.desks.Desks.{Desks}
+use Rattle.worker_desks.specs.declared.desks.Desks.{Desks}
 use Rattle.lab_workers.specs.Workers.{IsFree, IsWorkerAt, SchedChair, WorkerValue}
 use Rattle.lab_crew.specs.declared.member.Member.{Member}
 use Rattle.lab_desks.specs.Closed.{AreChairsOf}

@@ -13,7 +13,7 @@ use Rattle.rtio_core.specs.declared.data.Config.{Config}
 use Rattle.sched_state.specs.declared.entry.SchedAct.{SchedAct}
 use Rattle.lab_workers.proofs.Beginning.{tied-empty}
 use Rattle.desk_kernels.specs.Chairs.{CoreChair, KnowsItsOwn, core_entries}
-use Rattle.lab_workers.specs.declared.desks.Desks.{Desks}
+use Rattle.worker_desks.specs.declared.desks.Desks.{Desks}
 use Rattle.lab_workers.specs.Workers.{AreDesksOf, IsAtRest, IsTiedAt, IsWorkerAt, SchedChair, WorkerValue, halts}
 use Rattle.lab_crew.specs.declared.member.Member.{Member}
 use Rattle.lab_desks.specs.Columns.{Row, items_of}

@@ -29,7 +29,7 @@ use Rattle.lab_workers.proofs.Beginning.{tied-empty}
 use Rattle.desk_kernels.specs.Alone.{OpenSessionsWereOpenBefore}
 use Rattle.desk_kernels.specs.Chairs.{CoreChair, KnowsItsOwn, core_entries}
 use Rattle.desk_kernels.proofs.Seen.{booked-entries}
-use Rattle.lab_workers.specs.declared.desks.Desks.{Desks}
+use Rattle.worker_desks.specs.declared.desks.Desks.{Desks}
 use Rattle.lab_workers.specs.Workers.{IsFree, WorkerValue, sched_entries}
 use Rattle.lab_workers.proofs.Entries.{core-further, sched-further}
 use Rattle.lab_desks.specs.Closed.{AreClosed, IsClosedCore, IsClosedSched}

@@ -15,7 +15,7 @@ use Rattle.desk.proofs.counter.Desk.TheSendSync as Desk
 use Rattle.exp_model.proofs.session.Session.TheSendSync as Session
 use Rattle.rtio_core.proofs.one_core.Core.TheSendSync as Core
 use Rattle.sched_core.proofs.sched.Sched.TheSendSync as Sched
-use Rattle.lab_workers.specs.contracts.desks.Desks as Desks
+use Rattle.worker_desks.specs.contracts.desks.Desks as Desks
 use Rattle.lab_crew.proofs.Crossing.{kit_send}
 
 pub desks_sync : IsSync Desks.the_row

@@ -6,7 +6,7 @@ use Rattle.rtio_core.specs.declared.data.Config.{Config}
 use Rattle.exp_model.specs.declared.session.Session.{Session}
 use Rattle.sched_state.specs.Lawful.{state_after}
 use Rattle.sched_state.specs.Picks.{is_over}
-use Rattle.lab_workers.specs.declared.desks.Desks.{Desks}
+use Rattle.worker_desks.specs.declared.desks.Desks.{Desks}
 use Rattle.lab_workers.specs.declared.worker.WorkEnd.TheVariants.{Finished}
 use Rattle.lab_workers.specs.Workers.{IsAtRest, IsFree, IsWorkerAt, WorkerValue, halts, sched_entries}
 use Rattle.lab_crew.specs.declared.member.Member.{Member}

@@ -10,8 +10,8 @@ use Rattle.rtio_core.specs.declared.data.Config.{Config}
 use Rattle.exp_model.specs.declared.session.Pipeline.{Pipeline}
 use Rattle.exp_model.specs.declared.session.Session.{Session}
 use Rattle.exp_model.specs.Sessions.{is_session}
-use Rattle.lab_workers.specs.Settings.{config_at, config_of, new_cores}
-use Rattle.lab_workers.specs.declared.desks.Desks.{Desks}
+use Rattle.lab_ties.specs.Settings.{config_at, config_of, new_cores}
+use Rattle.worker_desks.specs.declared.desks.Desks.{Desks}
 use Rattle.lab_desks.specs.Columns.{IsDeskOf}
 use Rattle.lab_desks.specs.Seats.{AreSetFor}
 

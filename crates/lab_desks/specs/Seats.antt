@@ -4,8 +4,8 @@ use Rattle.desk_rule.specs.Histories.{Each}
 use Rattle.desk.specs.Seated.{Opened, new_chairs}
 use Rattle.rtio_core.specs.declared.data.Config.{Config}
 use Rattle.desk_kernels.specs.Chairs.{CoreChair}
-use Rattle.lab_workers.specs.declared.desks.Desks.{Desks}
-use Rattle.lab_workers.specs.Workers.{AreDesksOf, SchedChair}
+use Rattle.worker_desks.specs.declared.desks.Desks.{Desks}
+use Rattle.worker_desks.specs.Of.{AreDesksOf, SchedChair}
 use Rattle.lab_desks.specs.Columns.{Row, columns_of, items_of}
 
 -- the desks are those of their session, and each has a chair for every worker

@@ -4,17 +4,17 @@ ghost use Rattle.std.specs.Prelude.{◌≡◌, [], ◌<◌, IfOk, IsTrue, map, A
 ghost use Rattle.std.specs.List.{AllZip};
 ghost use Rattle.exp_model.specs.Sessions.{is_session};
 ghost use Rattle.sched_core.specs.Scheds.{new_sched};
-ghost use Rattle.lab_workers.specs.Settings.{new_cores};
+ghost use Rattle.lab_ties.specs.Settings.{new_cores};
 ghost use Rattle.lab_desks.specs.Columns.{IsDeskOf, columns_of};
 ghost use Rattle.lab_desks.specs.Seats.{AreNewChairs, AreSetFor};
 
 use desk::{Chair, Desk};
 use exp_model::Session;
 use lab_kits::Kit;
-use lab_workers::Desks;
 use rtio_core::Core;
 use sched_core::Sched;
 use std::alloc::{AllocError, Global};
+use worker_desks::Desks;
 
 /// The chairs of all desks.
 #[derive(Drop)]

@@ -19,7 +19,7 @@ use Rattle.lab_kits.specs.declared.kit.Kit.{Kit}
 use Rattle.lab_kits.specs.Kits.{KitCall, KitText, kit_source, program_in}
 use Rattle.stage_work.specs.declared.stepping.StepAt.{StepAt}
 use Rattle.stage_work.proofs.Done.{has-call}
-use Rattle.lab_workers.specs.declared.desks.Desks.{Desks}
+use Rattle.worker_desks.specs.declared.desks.Desks.{Desks}
 use Rattle.lab_workers.specs.declared.tasks.Report.TheVariants as report
 use Rattle.lab_workers.specs.Reports.{HasTold, IsRight}
 use Rattle.lab_workers.specs.Rounds.{ComesTo}

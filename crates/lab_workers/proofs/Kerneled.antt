@@ -45,7 +45,7 @@ use Rattle.stage_work.specs.Stepping.{step_job}
 use Rattle.desk_kernels.proofs.Seen.{booked-append, entries-booked}
 use Rattle.desk_kernels.specs.Chairs.{CoreChair, KnowsItsOwn, core_entries}
 use Rattle.desk_kernels.specs.Kernels.{IsKernelSession, KernelRun, RunsKernelAt, entries_until_end, session_entries}
-use Rattle.lab_workers.specs.declared.desks.Desks.{Desks}
+use Rattle.worker_desks.specs.declared.desks.Desks.{Desks}
 use Rattle.lab_workers.specs.declared.tasks.Report.TheVariants as report
 use Rattle.lab_workers.specs.Reports.{HasTold, step_told}
 use Rattle.lab_workers.specs.Rounds.{ComesTo}

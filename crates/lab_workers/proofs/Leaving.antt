@@ -17,7 +17,7 @@ use Rattle.sched_state.specs.declared.entry.SchedEntry.{SchedEntry}
 use Rattle.sched_state.specs.Lawful.{halted_by}
 use Rattle.stage_work.proofs.Scheds.{job-lasts}
 use Rattle.desk_kernels.specs.Chairs.{CoreChair, IsAt}
-use Rattle.lab_workers.specs.declared.desks.Desks.{Desks}
+use Rattle.worker_desks.specs.declared.desks.Desks.{Desks}
 use Rattle.lab_workers.specs.declared.tasks.StepTask.{StepTask}
 use Rattle.lab_workers.specs.declared.tasks.Task.{Task}
 use Rattle.lab_workers.specs.declared.tasks.Task.TheVariants as task

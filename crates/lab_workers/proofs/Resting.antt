@@ -20,7 +20,7 @@ use Rattle.stage_work.proofs.Lasting.{judgements-last, ties-last}
 use Rattle.stage_work.specs.Judged.{IsJudged}
 use Rattle.stage_work.specs.Ties.{AreTied, reports_of}
 use Rattle.desk_kernels.specs.Chairs.{CoreChair, KnowsItsOwn, core_entries}
-use Rattle.lab_workers.specs.declared.desks.Desks.{Desks}
+use Rattle.worker_desks.specs.declared.desks.Desks.{Desks}
 use Rattle.lab_workers.specs.Rounds.{ComesTo, GoesOn, KeepsRest}
 use Rattle.lab_workers.specs.Turns.{Follows, HasHalted, PutsNothing, PutsQuietly, halt_due}
 use Rattle.lab_workers.specs.Workers.{IsTiedAt, IsWorkerAt, SchedChair, StandsWith, WorkerValue, halts, is_halt, owed, sched_entries}

@@ -22,7 +22,7 @@ use Rattle.stage_work.proofs.Cores.{set-at}
 use Rattle.desk_kernels.proofs.Alone.{stays-open}
 use Rattle.desk_kernels.proofs.Seen.{booked-entries, entries-booked}
 use Rattle.desk_kernels.specs.Chairs.{CoreChair, KnowsItsOwn, core_entries}
-use Rattle.lab_workers.specs.declared.desks.Desks.{Desks}
+use Rattle.worker_desks.specs.declared.desks.Desks.{Desks}
 use Rattle.lab_workers.specs.Idling.{AreAt, HasWaited, HaveWaited}
 use Rattle.lab_workers.specs.Rounds.{GoesOn, KeepsRest}
 use Rattle.lab_workers.specs.Workers.{IsClosed, IsFree, IsTiedAt, IsWorkerAt, WorkerValue, sched_entries}

@@ -8,7 +8,7 @@ use Rattle.lab_kits.specs.declared.kit.Kit.{Kit}
 use Rattle.lab_kits.specs.Kits.{program_in}
 use Rattle.desk_kernels.specs.Chairs.{CoreChair}
 use Rattle.desk_kernels.specs.Kernels.{LeavesKernelAt, RunsKernelAt}
-use Rattle.lab_workers.specs.declared.desks.Desks.{Desks}
+use Rattle.worker_desks.specs.declared.desks.Desks.{Desks}
 use Rattle.lab_workers.specs.declared.tasks.StepTask.{StepTask}
 use Rattle.lab_workers.specs.declared.tasks.Task.{Task}
 use Rattle.lab_workers.specs.declared.tasks.Task.TheVariants as task

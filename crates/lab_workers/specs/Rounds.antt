@@ -4,7 +4,7 @@ use Rattle.exp_model.specs.declared.session.Session.{Session}
 use Rattle.sched_state.specs.declared.entry.JobName.{JobName}
 use Rattle.sched_state.specs.Lawful.{halted_by, state_after}
 use Rattle.sched_state.specs.Picks.{is_over}
-use Rattle.lab_workers.specs.declared.desks.Desks.{Desks}
+use Rattle.worker_desks.specs.declared.desks.Desks.{Desks}
 use Rattle.lab_workers.specs.declared.worker.WorkEnd.{WorkEnd}
 use Rattle.lab_workers.specs.declared.worker.WorkEnd.TheVariants.{Finished, Stopped, Memory}
 use Rattle.lab_workers.specs.Workers.{IsAtRest, IsLater, IsWorkerAt, SchedChair, StandsWith, WorkerValue, halts, sched_entries}

@@ -14,7 +14,7 @@ use Rattle.lab_kits.specs.Kits.{program_in}
 use Rattle.stage_work.specs.Steps.{start_of}
 use Rattle.desk_kernels.specs.Chairs.{CoreChair, IsSameChair, KnowsItsOwn}
 use Rattle.desk_kernels.specs.Kernels.{LeavesKernelAt, RunsKernelAt}
-use Rattle.lab_workers.specs.declared.desks.Desks.{Desks}
+use Rattle.worker_desks.specs.declared.desks.Desks.{Desks}
 use Rattle.lab_workers.specs.Workers.{WorkerValue}
 
 -- what the session of a kernel's step is started for: the function of the name

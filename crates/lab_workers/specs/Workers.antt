@@ -1,13 +1,12 @@
 -- A worker, its chairs, and what it keeps between two jobs.
 use Rattle.std.specs.Prelude.{◌≡◌, ◌⊎◌, ℕ, Bool, true, false, not, List, [], ◌∷◌, ◌++◌, filter, fold, length, map}
-use Rattle.std.specs.Prelude.{slice_get, Option, Some, None, IsTrue}
+use Rattle.std.specs.Prelude.{slice_get, Option, Some, None}
 use mathlib.Core.List.{IsPrefix}
 use Rattle.desk.specs.Seated.{Opened, Seated}
 use Rattle.desk_rule.specs.Histories.{Each}
 use Rattle.rtio_core.specs.declared.data.Config.{Config}
 use Rattle.rtio_core.specs.Entries.{open_session}
 use Rattle.exp_model.specs.declared.session.Session.{Session}
-use Rattle.exp_model.specs.Sessions.{is_session}
 use Rattle.sched_state.specs.declared.entry.JobName.{JobName}
 use Rattle.sched_state.specs.declared.entry.SchedAct.{SchedAct}
 use Rattle.sched_state.specs.declared.entry.SchedAct.TheVariants.{Halted, Took}
@@ -18,10 +17,8 @@ use Rattle.stage_work.specs.Judged.{IsJudged}
 use Rattle.stage_work.specs.Settings.{config_at}
 use Rattle.stage_work.specs.Ties.{AreTied}
 use Rattle.desk_kernels.specs.Chairs.{CoreChair, KnowsItsOwn, core_entries}
-use Rattle.lab_workers.specs.declared.desks.Desks.{Desks}
-
-abbrev pub SchedChair : Type 0
-SchedChair = Seated SchedAct Session
+use Rattle.worker_desks.specs.declared.desks.Desks.{Desks}
+pub use Rattle.worker_desks.specs.Of.{AreDesksOf, SchedChair}
 
 -- a worker: its number, its chair at the scheduler's desk, and one at each core's
 pub record WorkerValue : Type 0 where
@@ -36,14 +33,6 @@ IsFree number c = (c.number ≡ number) × (c.holds ≡ false)
 -- the scheduler's history as a desk has it, in the scheduler's own words
 abbrev pub sched_entries : List (ℕ × SchedAct) → List SchedEntry
 sched_entries seen = map (λ (e : ℕ × SchedAct). record { chair = e.0; act = e.1 }) seen
-
--- the desks are those of this session: the scheduler's session
--- is this one, and a core's settings are those of its pipeline
-pub record AreDesksOf (desks : Desks) : Type 0 where
-  pub session : IsTrue (is_session desks.session)
-  pub sched : desks.sched.fixed ≡ desks.session
-  pub count : length desks.cores.items ≡ length desks.session.pipelines
-  pub cores : (pipeline : ℕ) (desk : Opened Config) → slice_get desks.cores.items pipeline ≡ Some desk → config_at desks.session pipeline ≡ Some desk.fixed
 
 -- the worker's chairs are of these desks
 pub record IsWorkerAt (desks : Desks) (w : WorkerValue) : Type 0 where

@@ -6,12 +6,12 @@ ghost use Rattle.desk_kernels.specs.Chairs.{IsAt};
 ghost use Rattle.lab_workers.specs.Turns.{HasHalted};
 ghost use Rattle.lab_workers.specs.Workers.{AreDesksOf, sched_entries};
 
-use crate::desks::Desks;
 use desk::Chair;
 use lab_kits::Kit;
 use sched_core::Sched;
 use std::alloc::Global;
 use std::sync::Wait;
+use worker_desks::Desks;
 
 /// Takes the scheduler, halts it where nobody did, and puts it back.
 pub(crate) fn halt<R: Wait>(rt: &R, alloc: Global, desks: &Desks, chair: &mut Chair<Sched<Kit>>)

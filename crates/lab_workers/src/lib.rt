@@ -2,7 +2,6 @@
 //! the desks of the cores, and reports. How workers go about it is this project's own.
 #![tactic(auto)]
 
-mod desks;
 mod halting;
 mod idling;
 mod preparing;
@@ -12,7 +11,7 @@ mod tasks;
 mod turns;
 mod worker;
 
-pub use desks::Desks;
 /// Laws on what workers leave in the histories: it lasts.
 pub use stage_work::{judgements_last, ties_last};
 pub use worker::{WorkEnd, Worker};
+pub use worker_desks::Desks;

@@ -8,7 +8,6 @@ ghost use Rattle.desk_kernels.specs.Chairs.{IsAt};
 ghost use Rattle.lab_workers.specs.Turns.{Follows, HasTaken, PutsNothing, ReportsQuietly};
 ghost use Rattle.lab_workers.specs.Workers.{AreDesksOf, sched_entries};
 
-use crate::desks::Desks;
 use crate::reporting::tell;
 use crate::tasks::Report;
 use desk::Chair;
@@ -17,6 +16,7 @@ use lab_kits::{Gate, Kit, PrepareEnd, prepare};
 use sched_core::Sched;
 use std::alloc::{AllocError, Global};
 use std::sync::Wait;
+use worker_desks::Desks;
 
 /// Prepares a run, whose preparation the chair took last, outside any desk, and reports it: as prepared with its kit, or that its
 /// source was refused. The only error is want of memory, and then nothing was put.

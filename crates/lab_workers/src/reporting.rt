@@ -8,7 +8,6 @@ ghost use Rattle.lab_workers.specs.Reports.{HasTold, IsRight, act_told, job_told
 ghost use Rattle.lab_workers.specs.Turns.{Follows, HasTaken, PutsNothing};
 ghost use Rattle.lab_workers.specs.Workers.{AreDesksOf, sched_entries};
 
-use crate::desks::Desks;
 use crate::tasks::Report;
 use desk::Chair;
 use lab_kits::Kit;
@@ -16,6 +15,7 @@ use sched_core::Sched;
 use stage_work::{report_analyzed, report_prepared, report_refused, report_step};
 use std::alloc::{AllocError, Global};
 use std::sync::Wait;
+use worker_desks::Desks;
 
 /// Takes the scheduler, reports the job that the chair took last, and puts the scheduler back. The only error is want of memory, and
 /// then nothing was put.

@@ -11,7 +11,6 @@ ghost use Rattle.lab_workers.specs.Tasks.{IsTaskIn, job_of};
 ghost use Rattle.lab_workers.specs.Turns.{Follows, HasTurned, IsTurn, PutsNothing, adds};
 ghost use Rattle.lab_workers.specs.Workers.{AreDesksOf};
 
-use crate::desks::Desks;
 use crate::tasks::{StepTask, Task, Turn};
 use desk::Chair;
 use lab_kits::Kit;
@@ -19,6 +18,7 @@ use sched_core::{Job, Next, Sched};
 use stage_work::run_in_flight;
 use std::alloc::{AllocError, Global};
 use std::sync::Wait;
+use worker_desks::Desks;
 
 /// Takes the scheduler, asks for a job, and puts the scheduler back. The only error is want of memory, and then nothing was put.
 pub(crate) fn next_turn<R: Wait>(

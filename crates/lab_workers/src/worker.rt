@@ -10,7 +10,6 @@ ghost use Rattle.sched_state.specs.Picks.{is_over};
 ghost use Rattle.lab_workers.specs.Leaving.{IsLeft};
 ghost use Rattle.lab_workers.specs.Workers.{AreDesksOf, HaltsOnce, halts, IsAtRest, IsFree, IsLater, IsWorkerAt, sched_entries};
 
-use crate::desks::Desks;
 use crate::halting::halt;
 use desk::Chair;
 use lab_kits::{Gate, Kit};
@@ -19,6 +18,7 @@ use sched_core::Sched;
 use std::alloc::Global;
 use std::marker::Model;
 use std::sync::Wait;
+use worker_desks::Desks;
 
 /// Why a worker ended.
 #[derive(Clone, Copy, Debug, PartialEq, Eq)]

@@ -8,7 +8,6 @@ ghost use Rattle.lab_workers.specs.Turns.{HasTaken};
 ghost use Rattle.lab_workers.specs.Workers.{AreDesksOf, IsAtRest, IsWorkerAt, sched_entries};
 
 use super::{WorkEnd, Worker};
-use crate::desks::Desks;
 use crate::idling::{give_way, let_all_tick};
 use crate::preparing::do_preparation;
 use crate::reporting::tell;
@@ -17,6 +16,7 @@ use crate::turns::next_turn;
 use lab_kits::Gate;
 use std::alloc::{AllocError, Global};
 use std::sync::Wait;
+use worker_desks::Desks;
 
 impl Worker {
     /// Works round after round until nothing is left to do or the scheduler is halted. The only error is want of memory.

@@ -13,7 +13,6 @@ ghost use Rattle.lab_workers.specs.Turns.{HasTaken};
 ghost use Rattle.lab_workers.specs.Workers.{AreDesksOf, IsAtRest, IsWorkerAt, sched_entries};
 
 use super::Worker;
-use crate::desks::Desks;
 use crate::reporting::tell;
 use crate::starting::start_for;
 use crate::tasks::{Report, StepTask};
@@ -23,6 +22,7 @@ use rtio_core::StartOf;
 use sched_core::KernelResult;
 use std::alloc::{AllocError, Global};
 use std::sync::Wait;
+use worker_desks::Desks;
 
 impl Worker {
     /// Does a step of a run, which is the job that the worker took last, and reports it. A kernel's step runs at the core of the
