@@ -23,6 +23,7 @@ import tempfile
 from timing import PROGRAM, ROOT
 
 LABORATORY = os.path.join(ROOT, "crates", "artiq_lab", "out", "artiq_lab")
+TRACER = os.path.join(ROOT, "crates", "artiq_trace", "out", "artiq_trace")
 SOURCE = os.path.join(ROOT, "bench", "refusing_memory.c")
 # A run that takes longer than this many seconds counts as one that doesn't end.
 LONGEST = 120
@@ -95,6 +96,8 @@ def cases():
     yield Case("dump, a pair of pulses", [PROGRAM, "dump"], kernel(PAIR))
     yield Case("vcd, a pair of pulses", [PROGRAM, "vcd"], dump)
     yield Case("sat, a pair of pulses", [PROGRAM, "sat"], kernel(PAIR))
+    yield Case("trace, a recording played twice", [TRACER], kernel(PLAYED_TWICE))
+    yield Case("trace, a usual kernel", [TRACER, "--edges", "24:127800:r"], kernel(USUAL))
     with open(os.path.join(ROOT, "crates", "artiq_lab", "stdin"), encoding="utf-8") as file:
         session = json.load(file)
     for workers in (1, 2, 4):

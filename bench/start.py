@@ -16,7 +16,11 @@ import time
 from timing import ROOT
 
 ROUNDS = 300
-PROGRAMS = (("artiq_sim", ["sim"], "examples/pair_of_pulses.py"), ("artiq_lab", [], "examples/two_pipelines.json"))
+PROGRAMS = (
+    ("artiq_sim", ["sim"], "examples/pair_of_pulses.py"),
+    ("artiq_lab", [], "examples/two_pipelines.json"),
+    ("artiq_trace", [], "examples/pair_of_pulses.py"),
+)
 
 
 def milliseconds(argv, path):

@@ -1,7 +1,7 @@
 #!/usr/bin/env python3
 """Proves and builds a program of crates/ and the crates that it stands on, side by side.
 
-    python3 launch/build.py NAME      NAME is artiq_sim or artiq_lab
+    python3 launch/build.py NAME      NAME is artiq_sim, artiq_lab or artiq_trace
 
 The launchers in bin/ run it where the program isn't built, or its code is newer. It ends with 0 once the program stands in
 crates/NAME/out/. What it does is told on standard error.

@@ -1,0 +1,4 @@
+mod Asking
+mod Known
+mod Placing
+mod Telling

@@ -1,0 +1,35 @@
+use Rattle.std.proofs.Common.{◌≤◌, ap, subst, sym, ◌∙◌}
+use Rattle.code_law.specs.DoesAs.{DoesAs}
+use Rattle.kern_syntax.specs.Nodes.{program_nodes}
+use Rattle.kern_syntax.specs.Tree.{ProgramTree}
+use Rattle.kern_syntax.specs.TreeOf.{tree_of}
+use Rattle.kernel_lines.specs.KernelLines.{program_lines}
+use Rattle.trace_program.proofs.Telling.{main-places, main-session, seen-session, trace-answers}
+use Rattle.trace_program.proofs.answer.answer_of_kernel.Goals as goal
+
+pub program_lines-requires : goal.program_lines-requires
+program_lines-requires c =
+    subst (λ (p : ProgramTree). program_nodes p ≤ 16384) (ap tree_of (sym c.checked.ensures.kept)) c.requires.kernel.small
+
+pub places_of_main-requires : goal.places_of_main-requires
+places_of_main-requires c =
+    let made = c.in_ok-run.ensures.run in
+    let session = main-session (tree_of c.args.compiled.now.0) c.args.compiled.now.1 c.args.options c.in_ok-run.run'.core c.in_ok-run.run'.outcome c.in_ok-run.run'.steps made in (
+      made.counted.asked,
+      seen-session c.args.compiled.now.1 c.code.result.now c.args.options.budget c.in_ok-run.run'.core.history made.counted.asked c.in_ok-run.run'.steps c.code.ensures.kept session,
+    )
+
+pub returns : goal.returns
+returns c = λ text is_text.
+    let program = tree_of c.args.compiled.now.0 in
+    let code = c.args.compiled.now.1 in
+    let run = c.in_ok-run.run' in
+    let made = c.in_ok-run.ensures.run in
+    let session = main-session program code c.args.options run.core run.outcome run.steps made in
+    let lines_are = c.in_ok-lines.ensures ∙ ap program_lines (ap tree_of c.checked.ensures.kept) in
+    let has =
+    main-places program code c.code.result.now c.deref.result.now c.args.options.budget run.core.history made.counted.asked run.steps c.in_ok-places.places
+    c.code.ensures.kept (c.deref.ensures.value ∙ lines_are) session c.in_ok-places.ensures
+    in
+    trace-answers c.args.options text program code run c.in_ok-places.places (record { is_text = is_text; kernel = c.requires.kernel }) (subst (DoesAs program) c.code.ensures.kept c.code.ensures.does) c.requires.code made has
+    c.trace_of.result c.deref-2.result.now (c.deref-2.ensures.value ∙ lines_are) c.trace_of.ensures

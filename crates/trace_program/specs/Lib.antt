@@ -1,0 +1,5 @@
+pub mod Words
+pub mod Places
+pub mod Traces
+pub mod Readings
+pub mod Answers

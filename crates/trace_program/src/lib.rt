@@ -1,0 +1,10 @@
+//! The program `artiq_trace` as a function of its words and bytes, with what it promises: it runs a kernel as `artiq_sim`
+//! does, and tells of each request which line of the text asked it, how early each output was, and what became of it.
+#![tactic(auto)]
+
+mod answer;
+mod places;
+mod top;
+mod words;
+
+pub use top::{trace_top, without_memory};

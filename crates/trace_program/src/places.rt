@@ -1,0 +1,109 @@
+// Where a run of a kernel asked, and where it stopped.
+
+ghost use Rattle.std.specs.Prelude.{◌≡◌, ◌-◌, ◌<◌, ◌^◌, List, None, map, pos, IfOk};
+ghost use Rattle.core_session.specs.Sessions.{Answered};
+ghost use Rattle.kernel_places.specs.Ends.{line_at};
+ghost use Rattle.kernel_places.specs.OfSessions.{AreOfSession};
+ghost use Rattle.sim_program.specs.Runs.{start_of};
+ghost use Rattle.trace_program.specs.Places.{HasPlaces, beginning, main_line, text_place};
+
+use core_image::Verified;
+use kernel_places::{Place, RunPlaces, places_of_session};
+use rtio_core::StartOf;
+use rtio_types::IntList;
+use sim_program::Run;
+use std::alloc::{AllocError, Global};
+use trace_report::TextPlace;
+
+/// The places at which a run of the main function of accepted code asked its requests, and the one at which it stopped. That
+/// one isn't told where the count of the run's instructions stands at its end. `lines` has the line of each instruction.
+pub fn places_of_main(
+    alloc: Global,
+    code: &Verified,
+    budget: u32,
+    run: &Run,
+    lines: &[u32],
+) -> Result<RunPlaces, AllocError>
+    requires { (asked : List Answered)
+        × AreOfSession code.now budget (start_of code.now.main) (pos 0) run.now.core.history asked run.now.steps }
+    ensures { IfOk result (λ places. (asked : List Answered) →
+        AreOfSession code.now budget (start_of code.now.main) (pos 0) run.now.core.history asked run.now.steps →
+        HasPlaces code.now lines.now (beginning code.now.main budget) asked run.now.steps places.asked.items places.end) }
+{
+    let main = code.code().main;
+    let of = start_of(alloc, main as u32);
+    let places = places_of_session(alloc, code, &of, 0, budget, run.core.history(), lines)?;
+    Ok(if_counted(places, run.steps))
+}
+
+// What the session of a function runs.
+fn start_of(alloc: Global, function: u32) -> StartOf
+    ensures { result ≡ start_of function }
+{
+    StartOf {
+        source: 0,
+        function,
+        args: IntList::of(Vec::new(alloc)),
+        rid: 0,
+        pos: 0,
+    }
+}
+
+// The places of a run, without the one at which it stopped where the count of its instructions stands at its end.
+fn if_counted(places: RunPlaces, steps: u64) -> RunPlaces
+    ensures asked { result.asked ≡ places.asked }
+    ensures told { steps < 2 ^ 64 - 1 → result.end ≡ places.end }
+    ensures untold { steps ≡ 2 ^ 64 - 1 → result.end ≡ None }
+{
+    if steps == u64::MAX {
+        RunPlaces {
+            asked: places.asked,
+            end: None,
+        }
+    } else {
+        places
+    }
+}
+
+/// Where in the text instructions stand, by the line of each.
+pub fn text_places(
+    alloc: Global,
+    lines: &[u32],
+    places: &[Place],
+) -> Result<Vec<TextPlace>, AllocError>
+    ensures { IfOk result (λ all. all.items ≡ map (text_place lines.now) places.now) }
+{
+    let mut all = Vec::with_capacity(alloc, places.len())?;
+    for place in places {
+        all.push(text_place(lines, *place))?;
+    }
+    Ok(all)
+}
+
+/// Where in the text an instruction stands.
+pub fn text_place(lines: &[u32], place: Place) -> TextPlace
+    ensures { result ≡ text_place lines.now place }
+{
+    TextPlace {
+        line: line_at(lines, place.at),
+        main: main_line(lines, place),
+    }
+}
+
+// The line of the instruction of `main` under which another one runs; none where it is that instruction itself.
+fn main_line(lines: &[u32], place: Place) -> Option<u32>
+    ensures { result ≡ main_line lines.now place }
+{
+    if place.at == place.root {
+        None
+    } else {
+        Some(line_at(lines, place.root))
+    }
+}
+
+// The line of the instruction at a place, or 0 where it has none.
+fn line_at(lines: &[u32], place: u32) -> u32
+    ensures { result ≡ line_at lines.now place }
+{
+    lines.get(place as usize).copied().unwrap_or(0)
+}
