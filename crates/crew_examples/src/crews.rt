@@ -26,37 +26,6 @@ fn report_of<R: Abort + Threads + Wait + Sync, G: Gate + Sync>(
     Ok(String::from_str(alloc, str::from_utf8(out.held())?)?)
 }
 
-// ---- any number of workers
-
-const BEFORE_WORKERS: &str = r#"{"workers":"#;
-
-// One pipeline, and two runs of a kernel.
-const BEHIND_WORKERS: &str =
-    r#","pipelines":[{}],"sources":["def main():\n    delay_mu(1000)\n    ttl0.pulse_mu(100)\n"],
-"experiments":[{"source":0,"prepare":[],"run":[{"kernel":"main","args":[]}],"analyze":[]}],
-"arrivals":[{"at":0,"submit":{"experiment":0,"pipeline":0}},{"at":0,"submit":{"experiment":0,"pipeline":0}}]}"#;
-
-// The second run goes on at the cursor of the first.
-const REPORT: &str = "step 1 0 0 ok\nstep 2 1 0 ok\nrun 0 done\nrun 1 done\ncore 0
-out 1000 0 0 1\nout 1100 0 0 0\nout 2100 0 0 1\nout 2200 0 0 0\ncursor 2200\ncounter 2200\nend\n";
-
-fn text_for(alloc: Global, workers: u32) -> Result<String, AllocError> {
-    let mut json = String::new(alloc);
-    write!(json, "{BEFORE_WORKERS}{workers}{BEHIND_WORKERS}")?;
-    Ok(json)
-}
-
-#[test]
-fn one_pipeline_has_one_report_whoever_works(rt: HostRuntime) -> Result<(), Fail> {
-    let alloc = rt.alloc();
-    for workers in 1..9 {
-        let json = text_for(alloc, workers)?;
-        let report = report_of(&rt, alloc, json.as_str(), &OpenGate)?;
-        assert_eq!(rt; report.as_str(), REPORT, "{} workers", workers);
-    }
-    Ok(())
-}
-
 // ---- two at once
 
 // Two workers, two pipelines, and a run in each.
@@ -134,43 +103,61 @@ core 1\nout 1000 0 0 1\nout 1100 0 0 0\ncursor 1100\ncounter 1096
 core 2\nout 1000 0 0 1\nout 1100 0 0 0\ncursor 1100\ncounter 1096
 core 3\nout 1000 0 0 1\nout 1100 0 0 0\ncursor 1100\ncounter 1096\nend\n";
 
-// Keeps each worker that is about to compile until four are, and tells whether they all were at once.
+// Keeps each worker that is about to compile until four are, and each whose kernel has ended until four have; tells whether they
+// all were at once.
 #[derive(Drop)]
 struct Gathering {
     compiling: AtomicU64,
-    gathered: AtomicBool,
+    ended: AtomicU64,
+    compiled_at_once: AtomicBool,
+    ended_at_once: AtomicBool,
 }
 
 impl Gate for Gathering {
     fn at(&self, _worker: u32, place: Place) {
-        if let Place::Compiling { .. } = place {
-            self.compiling.fetch_add(1, Ordering::SeqCst);
-            self.await_all();
+        match place {
+            Place::Compiling { .. } => await_all(&self.compiling, &self.compiled_at_once),
+            Place::KernelEnded { .. } => await_all(&self.ended, &self.ended_at_once),
         }
     }
 }
 
-impl Gathering {
-    fn await_all(&self) {
-        for _ in 0..MOST_TURNS {
-            if self.compiling.load(Ordering::SeqCst) == 4 {
-                self.gathered.store(true, Ordering::SeqCst);
-                return;
-            }
-            thread::yield_now();
+// Counts a worker, waits until four are counted, and tells so.
+fn await_all(count: &AtomicU64, are_at_once: &AtomicBool) {
+    count.fetch_add(1, Ordering::SeqCst);
+    for _ in 0..MOST_TURNS {
+        if count.load(Ordering::SeqCst) == 4 {
+            are_at_once.store(true, Ordering::SeqCst);
+            return;
         }
+        thread::yield_now();
     }
+}
+
+fn gathered<R: Abort + Threads + Wait + Sync>(rt: &R, alloc: Global) -> Result<Gathering, Fail> {
+    let gate = Gathering {
+        compiling: AtomicU64::new(0),
+        ended: AtomicU64::new(0),
+        compiled_at_once: AtomicBool::new(false),
+        ended_at_once: AtomicBool::new(false),
+    };
+    let report = report_of(rt, alloc, FOUR, &gate)?;
+    assert!(rt; report.ends_with(END_OF_FOUR), "{report}");
+    Ok(gate)
 }
 
 #[test]
 fn four_compile_at_once(rt: HostRuntime) -> Result<(), Fail> {
-    let alloc = rt.alloc();
-    let gate = Gathering {
-        compiling: AtomicU64::new(0),
-        gathered: AtomicBool::new(false),
-    };
-    let report = report_of(&rt, alloc, FOUR, &gate)?;
-    assert!(rt; report.ends_with(END_OF_FOUR), "{report}");
-    assert!(rt; gate.gathered.load(Ordering::SeqCst));
+    let gate = gathered(&rt, rt.alloc())?;
+    assert!(rt; gate.compiled_at_once.load(Ordering::SeqCst));
+    Ok(())
+}
+
+// No step is reported before all four kernels have ended, each on its core. A worker that stood there with the scheduler would keep
+// the others from that.
+#[test]
+fn four_kernels_run_on_four_cores_at_once(rt: HostRuntime) -> Result<(), Fail> {
+    let gate = gathered(&rt, rt.alloc())?;
+    assert!(rt; gate.ended_at_once.load(Ordering::SeqCst));
     Ok(())
 }

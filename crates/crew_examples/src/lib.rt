@@ -1,4 +1,5 @@
-//! Sessions of several workers: the same report whoever works, and that they run at once. The crate has tests alone.
+//! Sessions of several workers: that they run at once. The crate has tests alone; that a session has one report whoever serves it is
+//! shown by `crew_rows`.
 #![tactic(auto)]
 
 #[cfg(test)]
