@@ -1,23 +1,23 @@
 #!/usr/bin/env python3
 """Tries on the built program what the README, the documents and the page of the examples say of it.
 
-    python3 docs/check_documents.py [--program PATH] [--laboratory PATH]
+    python3 docs/check_documents.py [--program PATH] [--laboratory PATH] [--tracer PATH]
 
-Without PATH it runs bin/artiq_sim and bin/artiq_lab, which prove and build the programs first. It is run by hand, ends with
-status 1 where something is otherwise than written, and says where. What it tries:
+Without PATH it runs bin/artiq_sim, bin/artiq_lab and bin/artiq_trace, which prove and build the programs first. It is run by
+hand, ends with status 1 where something is otherwise than written, and says where. What it tries:
 
 - A block "python NAME.py" is a file for the commands behind it. In a block "console" each line behind "$ " is run by bash,
   with the lines behind "> " that follow it, in a folder with these files, bin/ and examples/, and prints what stands below
-  it. An indented line that begins with bin/artiq_sim, bin/artiq_lab, head, or python3 and another script of docs/ is run
-  there too, and ends with status 0.
+  it. An indented line that begins with one of these programs, head, or python3 and another script of docs/ is run there too,
+  and ends with status 0.
 - A block "python COMMAND STATUS" is a text to which the command (sim or check) answers this status. A block "text" behind
   it is what that writes: on standard output, at status 1 on standard error.
 - In a table with the columns line, text and mended, the text is refused with the line, and the mended one isn't refused.
   In both, `\\n` is the end of a line, and `\\t` a tab.
 - Where a sentence says that a text in backquotes gives, or is told as, a line in backquotes, the text is refused so.
-- Each kernel in examples/ gives its report under the options in its `.words`, and stands with all three in a row of
-  sim_rows. Where it has `.answers`, each line "$ WORDS" there gives the lines below it. Each session there that has a
-  report gives it.
+- Each kernel in examples/ gives its report and its trace under the options in its `.words`, and stands with these in a row
+  of sim_rows and one of trace_rows. Where it has `.answers`, each line "$ WORDS" there gives the lines below it. Each
+  session there that has a report gives it.
 - Each path in backquotes is there, in RECIPES.md below crates/ too, but for those with NAME, any crate. ARCHITECTURE.md has
   the picture that sizes.py prints, names each file of definitions or its folder, and lists the crates of crates.txt in
   its order, each with the crates that it stands on and clauses that it has. Each word in backquotes in CONTRACTS.md
@@ -40,7 +40,7 @@ import sizes
 ROOT = pathlib.Path(__file__).resolve().parent.parent
 FENCE = re.compile(r"^```(\w*) ?(.*)\n((?:.*\n)*?)```$", re.M)
 GIVES = re.compile(r"`([^`\n]+)` (?:gives|is told as) `((?:lex|syntax|type|code) [^`\n]+)`")
-COMMAND = re.compile(r"^    ((?:bin/artiq_sim (?:sim|check|compile|exec|gen|slack|dump|vcd|sat)|bin/artiq_lab|head|python3 docs/(?!check_documents))[^#\n]*)", re.M)
+COMMAND = re.compile(r"^    ((?:bin/artiq_sim (?:sim|check|compile|exec|gen|slack|dump|vcd|sat)|bin/artiq_lab|bin/artiq_trace|head|python3 docs/(?!check_documents))[^#\n]*)", re.M)
 COUNTED = re.compile(r"\| `python3 docs/definitions\.py ?([^`]*)` \| some ([\d,]+) \| ([\d,]+) \|$", re.M)
 ROW = re.compile(r"^\| (\w+) \| (.*) \| ?([\w, ]*?) ?\|$", re.M)
 # The scripts of docs/ with their words, and the program that each needs beside the built ones.
@@ -76,10 +76,9 @@ class Checker:
             self.wrong += 1
             print(f"{where}: {what}\n  wanted {wanted!r}\n  found  {found!r}")
 
-    def program(self, command, text, options=()):
-        run = subprocess.run(
-            [self.folder / "bin" / "artiq_sim", command, *options], input=text.encode(), capture_output=True
-        )
+    def program(self, command, text, options=(), name="artiq_sim"):
+        words = [command, *options] if command else options
+        run = subprocess.run([self.folder / "bin" / name, *words], input=text.encode(), capture_output=True)
         return run.returncode, run.stdout.decode(), run.stderr.decode()
 
     def refused(self, where, text, line):
@@ -151,17 +150,22 @@ class Checker:
                 self.expect(where, name, (ROOT / "crates" / name).exists(), True)
 
     def examples(self):
-        rows = "".join(table.read_text() for table in sorted((ROOT / "crates/sim_rows/data").glob("*.rows")))
         for example in sorted((ROOT / "examples").glob("*.py")):
-            report = example.with_suffix(".report").read_text()
+            text = example.read_text()
             words = example.with_suffix(".words")
             options = words.read_text().split() if words.exists() else []
-            _, out, err = self.program("sim", example.read_text(), options)
-            self.expect(example.name, "its report", (out, err), (report, ""))
-            question = "".join(f"| {line}".rstrip() + "\n" for line in example.read_text().splitlines())
-            answer = "".join(f"> {line}".rstrip() + "\n" for line in report.splitlines())
-            row = question + " ".join(["$ sim", *options]) + "\n" + answer
-            self.expect(example.name, "its row", row in rows, True)
+            self.example(example, "report", self.program("sim", text, options), ["$ sim", *options], "sim_rows")
+            self.example(example, "trace", self.program("", text, options, "artiq_trace"), ["$", *options], "trace_rows")
+
+    def example(self, example, kind, answer, words, rows):
+        """The report or the trace of an example is what the program answers, and what a row says."""
+        written = example.with_suffix(f".{kind}").read_text()
+        self.expect(example.name, f"its {kind}", answer[1:], (written, ""))
+        question = "".join(f"| {line}".rstrip() + "\n" for line in example.read_text().splitlines())
+        lines = "".join(f"> {line}".rstrip() + "\n" for line in written.splitlines())
+        tables = "".join(table.read_text() for table in sorted((ROOT / "crates" / rows / "data").glob("*.rows")))
+        row = question + " ".join(words) + "\n" + lines
+        self.expect(example.name, f"its row of {rows}", row in tables, True)
 
     def answers(self):
         for answers in sorted((ROOT / "examples").glob("*.answers")):
@@ -263,10 +267,11 @@ def words_in(places):
 
 def programs_named(usage):
     """Returns the programs that the words name, else the launchers; ends with the usage at other words."""
-    programs = {name: ROOT / "bin" / name for name in ("artiq_sim", "artiq_lab")}
+    names = {"--program": "artiq_sim", "--laboratory": "artiq_lab", "--tracer": "artiq_trace"}
+    programs = {name: ROOT / "bin" / name for name in names.values()}
     words = sys.argv[1:]
-    while len(words) >= 2 and words[0] in ("--program", "--laboratory"):
-        programs["artiq_sim" if words[0] == "--program" else "artiq_lab"] = pathlib.Path(words[1]).resolve()
+    while len(words) >= 2 and words[0] in names:
+        programs[names[words[0]]] = pathlib.Path(words[1]).resolve()
         words = words[2:]
     if words:
         sys.exit(usage)

@@ -4,8 +4,9 @@
     python3 docs/definitions.py [--sums] [--beyond NAME] [NAME..]
 
 Without NAME it begins at all definitions that the clause `due` of `sim_top` cites. NAME is another top call with a clause
-`due` (`lab_top`), or a definition, as NAME or CRATE.NAME. With --sums it prints the last line alone: how many definitions
-there are, of how many lines, in how many files. With --beyond it leaves out all that another clause or definition rests on.
+`due` (`lab_top`, `trace_top`), or a definition, as NAME or CRATE.NAME. With --sums it prints the last line alone: how many
+definitions there are, of how many lines, in how many files. With --beyond it leaves out all that another clause or definition
+rests on.
 
 Definitions are followed through the files of specs/, those too that a crate passes on from one below, in the order in which
 a reader meets them from the top, and added up by file. A word counts as citing each definition that the file could mean by
