@@ -11,4 +11,3 @@ pub mod Roots
 pub mod Settling
 pub mod Stops
 pub mod Turning
-pub mod Wrapping

@@ -1,8 +1,8 @@
 -- The last frame.
-use Rattle.std.proofs.Common.{◌≡◌, ℕ, suc, zero, ◌+◌, ◌-◌, ◌≤◌, List, [], ◌∷◌, length, drop, Some, arith}
+use Rattle.std.proofs.Common.{◌≡◌, ℕ, suc, zero, ◌+◌, ◌-◌, ◌≤◌, List, [], ◌∷◌, length, drop, Some, ap, arith}
 use Rattle.std.specs.Prelude.{ℤ, slice_get}
 use Rattle.core_cpu.specs.Layout.{frames_of}
-use Rattle.core_cpu.specs.Roots.{last_place}
+use Rattle.core_cpu.specs.Roots.{last_place, root_of}
 use Rattle.core_cpu.specs.declared.layout.Activation.{Activation}
 use Rattle.core_cpu.specs.declared.layout.Handler.{Handler}
 
@@ -21,9 +21,10 @@ at_last place (a ∷ b ∷ rest) slots operands handlers zero last long is = abs
 at_last place (a ∷ b ∷ rest) slots operands handlers (suc i) last long is =
     at_last a.place (b ∷ rest) (drop a.function.slots slots) (drop a.height operands) (drop a.tries handlers) i last (omega (arith, long)) is
 
-pub root_below : (place : ℕ) (frames : List Activation) (slots operands : List ℤ) (handlers : List Handler) (last : Activation)
+pub root_below : (frames : List Activation) (slots operands : List ℤ) (handlers : List Handler) (last : Activation)
     → 1 ≤ length frames
     → slice_get frames (length frames - 1) ≡ Some last
-    → last_place place (frames_of frames slots operands handlers) ≡ last.place
-root_below place frames slots operands handlers last some is =
-    at_last place frames slots operands handlers (length frames - 1) last (omega (arith, some)) is
+    → root_of (frames_of frames slots operands handlers) ≡ Some last.place
+root_below [] slots operands handlers last some is = absurd (omega (arith, some))
+root_below (a ∷ rest) slots operands handlers last some is =
+    ap Some (at_last 0 (a ∷ rest) slots operands handlers (length (a ∷ rest) - 1) last (omega (arith, some)) is)

@@ -286,9 +286,9 @@ impl<'a> Cpu<'a> {
         self.state.place()
     }
 
-    /// The place in the code at which the function stands that the run began with: in a called function, that of the call
-    /// under which it runs.
-    pub fn root(&self) -> u32
+    /// The place in the code of the call under which it runs, in the function that the run began with; none where that
+    /// function runs itself.
+    pub fn root(&self) -> Option<u32>
         ensures { result ≡ root_place self.now.machine }
     {
         self.state.root()

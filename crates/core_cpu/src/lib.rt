@@ -2,7 +2,6 @@
 #![tactic(auto)]
 
 mod answer;
-mod arithmetic;
 mod course;
 mod cpu;
 mod first;

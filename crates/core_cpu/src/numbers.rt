@@ -14,16 +14,16 @@ impl State {
         self.here.place
     }
 
-    /// The place at which the function stands that the run began with.
+    /// The place of the call under which it runs, in the function that the run began with; none where that one runs itself.
     #[tactic(auto, using(crate::proofs::Roots::root_below))]
-    pub fn root(&self) -> u32
+    pub fn root(&self) -> Option<u32>
         ensures { result ≡ root_place self.now.machine }
     {
         let count = self.callers.count();
         if count == 0 {
-            self.here.place
+            None
         } else {
-            self.callers.get(count - 1).place
+            Some(self.callers.get(count - 1).place)
         }
     }
 

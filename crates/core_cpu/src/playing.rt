@@ -5,13 +5,13 @@ ghost use Rattle.rtio_types.specs.Time.{shifted};
 ghost use Rattle.core_isa.specs.Steps.{play_events};
 ghost use Rattle.core_cpu.specs.Courses.{TurnsTo};
 
-use crate::arithmetic::moved_on;
 use crate::course::Course;
 use crate::phase::Purpose;
 use crate::playback::Playback;
 use crate::state::State;
 use crate::step::{asks, onward};
 use rtio_types::{Event, Request};
+use word_arithmetic::moved_on;
 
 // An output of a recording that is played from a cursor.
 fn moved(event: Event, cursor: i64) -> Event

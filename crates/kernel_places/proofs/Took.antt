@@ -4,9 +4,9 @@ use Rattle.std.specs.Prelude.{◌^◌}
 use Rattle.std.proofs.Math.Nat.{min-le_right}
 use Rattle.rtio_types.specs.declared.request.Reply.{Reply}
 use Rattle.core_isa.specs.declared.code.Code.{Code}
-use Rattle.core_isa.specs.Machine.{Frame, Machine, Next, goes, ends, stuck, unanswered}
+use Rattle.core_isa.specs.Machine.{Machine, Next, goes, ends, stuck, unanswered}
 use Rattle.core_isa.specs.Runs.{counted, steps}
-use Rattle.core_cpu.specs.Roots.{last_place, root_place}
+use Rattle.core_cpu.specs.Roots.{root_of, root_place}
 use Rattle.code_replies.proofs.Extends.{more}
 use Rattle.kernel_places.specs.declared.place.Place.{Place}
 use Rattle.kernel_places.proofs.Acts.{step_leaves}
@@ -23,10 +23,9 @@ pub record Took (code : Code) (first : Machine) (place : Place) (count : ℕ) : 
   pub left : 1 ≤ length machine.replies
   pub between : (k : ℕ) (later : Machine) → before < k → k < count → steps code k first ≡ goes later → ⊥
 
--- two frames stand at places alike
-same_root : (one other : Machine) → one.top.place ≡ other.top.place → one.callers ≡ other.callers → root_place one ≡ root_place other
-same_root one other top callers =
-    ap (λ (p : ℕ). last_place p one.callers) top ∙ ap (λ (l : List Frame). last_place other.top.place l) callers
+-- two machines with the same callers run under the same call
+same_root : (one other : Machine) → one.callers ≡ other.callers → root_place one ≡ root_place other
+same_root one other callers = ap root_of callers
 
 at_most : (low high : ℕ) (next : Next) → AtLeast low next → Counted high next → low ≤ high
 at_most low high (goes m) at same = let same' : m.steps ≡ high = same in let at' : low ≤ m.steps = at in omega arith
@@ -79,7 +78,7 @@ module _ (code : Code) (fewer : Machine) (reply : Reply) (place : Place) (bound 
         machine = more (reply ∷ []) by.before;
         comes = comes;
         at = sym keeps.0 ∙ at;
-        under = sym (same_root last by.before keeps.0 keeps.1) ∙ under;
+        under = sym (same_root last by.before keeps.1) ∙ under;
         left = (let long : length (by.before.replies ++ reply ∷ []) ≡ length by.before.replies + 1 = length-append by.before.replies (reply ∷ []) in omega arith);
         between = between;
       }

@@ -3,12 +3,12 @@
 ghost use Rattle.std.specs.Prelude.{◌≡◌, option_map};
 ghost use Rattle.std.specs.Int.{int_wrap, w64};
 ghost use Rattle.kern_calls.specs.Types.{bits_of, width_of};
-ghost use Rattle.meaning_numbers.specs.Widths.{IsShiftWidth};
+ghost use Rattle.word_arithmetic.specs.Widths.{IsShiftWidth};
 ghost use Rattle.timeline_sem.specs.Numbers.{compares, exact_result, unary_result};
 
-use crate::arithmetic::{low_signed, quotient, remainder, shifted_left, shifted_right};
 use kern_calls::{ValueType, bits_of};
 use kern_syntax::{BinaryOperator, Comparison, UnaryOperator};
+use word_arithmetic::{low_signed, quotient, remainder, shifted_left, shifted_right};
 
 // A number wrapped at the width of a type.
 fn wrapped(kind: ValueType, a: i64) -> i64

@@ -1,5 +1,5 @@
 -- Where in the text a run asked, and where it stopped.
-use Rattle.std.specs.Prelude.{◌≡◌, ℕ, ◌-◌, ◌<◌, ◌^◌, ◌==◌, List, [], pos, Option, Some, None, if◌then◌else◌}
+use Rattle.std.specs.Prelude.{◌≡◌, ℕ, ◌-◌, ◌<◌, ◌^◌, List, [], pos, Option, None, option_map}
 use Rattle.core_isa.specs.declared.code.Code.{Code}
 use Rattle.core_cpu.specs.Standing.{Start as Beginning}
 use Rattle.core_session.specs.Sessions.{Answered, replies_of}
@@ -8,10 +8,9 @@ use Rattle.kernel_places.specs.Ends.{StopsFrom, last_of, line_at}
 use Rattle.kernel_places.specs.Places.{AreAskedAt}
 use Rattle.trace_report.specs.declared.place.TextPlace.{TextPlace}
 
--- the line of the instruction of `main` under which an instruction runs, which is a call then; none where it is that
--- one itself
+-- the line of the call in `main` under which an instruction runs; none where `main` runs it itself
 abbrev pub main_line : (lines : List ℕ) → Place → Option ℕ
-main_line lines place = if place.at == place.root then None else Some (line_at lines place.root)
+main_line lines place = option_map (line_at lines) place.root
 
 -- where in the text an instruction stands, by the line of each
 abbrev pub text_place : (lines : List ℕ) → Place → TextPlace

@@ -90,15 +90,11 @@ pub fn text_place(lines: &[u32], place: Place) -> TextPlace
     }
 }
 
-// The line of the instruction of `main` under which another one runs; none where it is that instruction itself.
+// The line of the call in `main` under which an instruction runs; none where `main` runs it itself.
 fn main_line(lines: &[u32], place: Place) -> Option<u32>
     ensures { result ≡ main_line lines.now place }
 {
-    if place.at == place.root {
-        None
-    } else {
-        Some(line_at(lines, place.root))
-    }
+    Some(line_at(lines, place.root?))
 }
 
 // The line of the instruction at a place, or 0 where it has none.

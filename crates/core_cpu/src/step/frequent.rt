@@ -11,10 +11,10 @@ ghost use Rattle.core_cpu.specs.declared.course.Course.TheVariants.{Silent};
 
 use super::gives;
 use super::operators::changed;
-use crate::arithmetic::low_signed;
 use crate::course::Way;
 use crate::state::State;
 use core_isa::Instr;
+use word_arithmetic::low_signed;
 
 fn sum(a: i64, b: i64) -> i64
     ensures { (code : Code) (m : Machine) (rest : List ℤ) →

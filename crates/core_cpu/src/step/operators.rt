@@ -10,11 +10,11 @@ ghost use Rattle.core_cpu.specs.Families.{changes_one, is_operator, is_plain, Ha
 ghost use Rattle.core_cpu.specs.declared.course.Course.TheVariants.{Silent};
 
 use super::{gives, raises};
-use crate::arithmetic::{low_signed, quotient, remainder, shifted_left, shifted_right};
 use crate::course::Way;
 use crate::state::State;
 use core_isa::Instr;
 use rtio_types::Exc;
+use word_arithmetic::{low_signed, quotient, remainder, shifted_left, shifted_right};
 
 // The result of an operator on two values. A division by 0 has none.
 fn combined(instr: Instr, a: i64, b: i64) -> Option<i64>

@@ -8,12 +8,12 @@ ghost use Rattle.core_isa.specs.declared.instr.Instr.TheVariants as I;
 ghost use Rattle.core_cpu.specs.Courses.{Fits, TurnsTo};
 
 use super::{asks, onward, spent};
-use crate::arithmetic::{low_byte, low_word};
 use crate::course::Course;
 use crate::phase::Purpose;
 use crate::state::State;
 use rtio_types::{Event, Request};
 use std::alloc::AllocError;
+use word_arithmetic::{low_byte, low_word};
 
 // Counts the instruction, and puts out a word on a channel and address, or collects it in the open recording. Without
 // memory for it nothing happens.

@@ -8,9 +8,9 @@ ghost use Rattle.core_cpu.specs.Courses.{Fits, TurnsTo};
 ghost use Rattle.core_cpu.specs.declared.course.Course.TheVariants.{Silent};
 
 use super::{gives, onward};
-use crate::arithmetic::moved_on;
 use crate::course::Way;
 use crate::state::State;
+use word_arithmetic::moved_on;
 
 /// Puts the cursor upon the operands.
 pub fn now(state: &mut State) -> Way

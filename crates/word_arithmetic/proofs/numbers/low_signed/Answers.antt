@@ -2,8 +2,8 @@ use Rattle.std.proofs.Common.{◌≡◌, ◌∙◌, ap, to_z, of_z}
 use Rattle.std.specs.Int.{w32, w64, int_wrap}
 use Rattle.std.proofs.lemmas.Int.{to_z-of_z, SFits-int_wrap}
 use Rattle.rtio_types.specs.Integers.{low_bits}
-use Rattle.meaning_numbers.proofs.Wrapping.{wrap_low, low_fits}
-use Rattle.meaning_numbers.proofs.arithmetic.low_signed.Goals as goal
+use Rattle.word_arithmetic.proofs.Wrapping.{wrap_low, low_fits}
+use Rattle.word_arithmetic.proofs.numbers.low_signed.Goals as goal
 
 pub returns : goal.returns
 returns c =

@@ -3,8 +3,8 @@ use Rattle.std.specs.Prelude.{pos, ◌<ℤ◌, ◌≤ℤ◌}
 use Rattle.std.specs.Int.{w64}
 use Rattle.std.specs.Int.RustNames.{int_div}
 use Rattle.std.proofs.lemmas.Int.{ints, to_z-of_z}
-use Rattle.core_cpu.proofs.Wrapping.{floor_wraps, below_zero}
-use Rattle.core_cpu.proofs.arithmetic.quotient.Goals as goal
+use Rattle.word_arithmetic.proofs.Wrapping.{floor_wraps, below_zero}
+use Rattle.word_arithmetic.proofs.numbers.quotient.Goals as goal
 
 pub returns-else-a-gt0 : goal.returns-else-a-gt0
 returns-else-a-gt0 c =

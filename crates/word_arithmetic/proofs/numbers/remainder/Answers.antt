@@ -2,8 +2,8 @@ use Rattle.std.proofs.Common.{◌∙◌, sym}
 use Rattle.std.specs.Int.{w64, int_wrap}
 use Rattle.std.proofs.lemmas.Int.{to_z-of_z}
 use Rattle.rtio_types.specs.Integers.{floor_quotient, nonzero}
-use Rattle.core_cpu.proofs.Wrapping.{remainder_is}
-use Rattle.core_cpu.proofs.arithmetic.remainder.Goals as goal
+use Rattle.word_arithmetic.proofs.Wrapping.{remainder_is}
+use Rattle.word_arithmetic.proofs.numbers.remainder.Goals as goal
 
 pub returns : goal.returns
 returns c =

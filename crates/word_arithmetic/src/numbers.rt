@@ -4,7 +4,7 @@ ghost use Rattle.std.specs.Prelude.{◌≡◌, ◌*ℤ◌, pos};
 ghost use Rattle.std.specs.Int.{int_shr, int_wrap, w32, w64};
 ghost use Rattle.rtio_types.specs.Integers.{floor_quotient, floor_remainder, low_bits, nonzero, shift_distance, shift_factor};
 ghost use Rattle.rtio_types.specs.Time.{later};
-ghost use Rattle.meaning_numbers.specs.Widths.{IsShiftWidth};
+ghost use Rattle.word_arithmetic.specs.Widths.{IsShiftWidth};
 
 /// The quotient rounded down, which wraps; none of a divisor of 0.
 pub fn quotient(a: i64, b: i64) -> Option<i64>

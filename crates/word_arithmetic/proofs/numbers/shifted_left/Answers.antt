@@ -3,8 +3,8 @@ use Rattle.std.specs.Int.{w64}
 use Rattle.std.proofs.lemmas.Int.{to_z-of_z}
 use Rattle.std.proofs.Math.Nat.{mod-eq_of_lt}
 use Rattle.rtio_types.specs.Integers.{shift_distance}
-use Rattle.core_cpu.proofs.Wrapping.{shl_wraps, shift_within}
-use Rattle.core_cpu.proofs.arithmetic.shifted_left.Goals as goal
+use Rattle.word_arithmetic.proofs.Wrapping.{shl_wraps, shift_within}
+use Rattle.word_arithmetic.proofs.numbers.shifted_left.Goals as goal
 
 pub returns : goal.returns
 returns c =
