@@ -3,6 +3,7 @@
 
     python3 bench/gate.py --record LOG [WORD..]    runs `rt ci WORD..` and notes in LOG what each of its checks cost
     python3 bench/gate.py LOG..                    prints the table of such logs, and what is over its budget
+    python3 bench/gate.py --times LOG..            prints launch/times.txt by such logs: the proofs of what the programs stand on
 
 Run by hand. Some kits keep what a gate passed: there the word --anew has the whole gate proved from nothing, and without
 it only what the machine has not kept. Other kits take no word, and prove all each time. Times are of processors, user
@@ -24,6 +25,8 @@ import sizes  # noqa: E402
 
 # The budget in seconds: of a crate, and of a program's top crate.
 BUDGET, TOP_BUDGET, TOP_CRATES = 420, 840, ("sim_program", "trace_program", "lab_program")
+PROGRAMS = "artiq_sim", "artiq_lab", "artiq_trace"
+TIMES = os.path.join(os.path.dirname(os.path.abspath(__file__)), "../launch/times.txt")
 KINDS = ("proof", "tests", "edits")
 TICK = os.sysconf("SC_CLK_TCK")
 
@@ -140,6 +143,21 @@ def show(paths):
             print(f"over its budget of {limit // 60} minutes: {crate}")
 
 
+def show_times(paths):
+    """Prints launch/times.txt: its words, and the seconds of each crate's proof, of those that a program stands on."""
+    spent = collections.Counter()
+    for line in lines_of(paths):
+        seconds, crate, kind, *_ = line.split()
+        spent[crate] += float(seconds) if kind == "proof" else 0.0
+    with open(TIMES, encoding="utf-8") as kept:
+        print("".join(line for line in kept if line.startswith("#")), end="")
+    every = sizes.crates()
+    wanted = {*PROGRAMS, *(below for program in PROGRAMS for below in sizes.below(every, program))}
+    for name in every:
+        if name in wanted and name in spent:
+            print(f"{name} {spent[name]:.0f}")
+
+
 def chain(seconds):
     """Returns the seconds of the longest chain of proofs, each crate of which stands on the one before, and its crates."""
     every, best = sizes.crates(), {}
@@ -153,10 +171,13 @@ def main():
     words = sys.argv[1:]
     if words[:1] == ["--record"] and len(words) > 1:
         return record(words[1], words[2:])
-    if not words or words[0].startswith("-"):
+    if not words or words[0].startswith("-") and words[0] != "--times":
         print(__doc__, file=sys.stderr)
         return 2
-    show(words)
+    if words[0] == "--times":
+        show_times(words[1:])
+    else:
+        show(words)
     return 0
 
 
