@@ -1,6 +1,6 @@
 // The code of functions, one behind the other.
 
-ghost use Rattle.std.specs.Prelude.{◌≡◌, ◌+◌, ◌<◌, ◌≤◌, ◌^◌, ◌++◌, [], ◌∷◌, IfOk, OnOk, is_some, length, map};
+ghost use Rattle.std.specs.Prelude.{◌≡◌, ◌+◌, ◌<◌, ◌≤◌, ◌^◌, ◌++◌, [], ◌∷◌, Contains, IfOk, OnOk, is_some, length, map};
 ghost use Rattle.kern_syntax.specs.TreeOf.{block_of, function_of};
 ghost use Rattle.kern_expression_types.specs.Before.{is_in};
 ghost use Rattle.code_forms.specs.Programs.{block_slots, entries_of, entry_of, function_code, function_size, functions_code};
@@ -67,6 +67,7 @@ fn put_function(
     function: &Function,
 ) -> Result<(), AllocError>
     requires few { length program.now.functions.now < 2 ^ 16 }
+    requires own { Contains (program_of program.now) (function_of function.now) }
     requires ready { IsReadyFunction (program_of program.now) texts.now (length parts.old.lines.items) (function_of function.now) }
     ensures entry { OnOk result (parts.new.entries.items ≡ parts.old.entries.items
         ++ entry_of (program_of program.now) (map (λ n. n.now) plain.now) (length parts.old.lines.items) (function_of function.now) ∷ []) }

@@ -1,3 +1,4 @@
+pub mod Named
 pub mod SettingOf
 pub mod Slots
 pub mod TextsAfter

@@ -64,7 +64,7 @@ fn add_argument(alloc: Global, texts: &mut Texts, argument: &Argument) -> Result
 {
     match argument {
         Argument::Value(e) => add_expression(alloc, texts, e),
-        Argument::Text(text) => texts.add(alloc, text.bytes()),
+        Argument::Text(text) => texts.add(alloc, text),
     }
 }
 
@@ -132,7 +132,7 @@ fn add_statement(alloc: Global, texts: &mut Texts, statement: &StmtKind) -> Resu
         }
         StmtKind::Parallel(body) | StmtKind::Sequential(body) => add_block(alloc, texts, body),
         StmtKind::Record(name, body) => {
-            texts.add(alloc, name.bytes())?;
+            texts.add(alloc, name)?;
             add_block(alloc, texts, body)
         }
         StmtKind::Try(body, handlers) => {

@@ -1,6 +1,7 @@
 // The names of recordings and datasets.
 
-ghost use Rattle.std.specs.Prelude.{◌≡◌, ◌++◌, [], ◌∷◌, OnOk};
+ghost use Rattle.std.specs.Prelude.{◌≡◌, ◌++◌, [], ◌∷◌, IsTrue, OnOk};
+ghost use Rattle.rtio_types.specs.Names.{is_name};
 
 use indexmap::IndexSet;
 use rtio_types::Name;
@@ -15,14 +16,17 @@ pub struct Texts {
 
 impl Model for Texts {
     ghost use Rattle.std.specs.Prelude.{List, ℕ, map};
+    ghost use Rattle.core_code_names.specs.Named.{AreNames};
 
     ghost Value = { List (List ℕ) };
 
     ghost view = { λ t. map (λ text. text.items) t.texts.keys };
+
+    ghost invariant = { λ t. AreNames (map (λ text. text.items) t.texts.keys) };
 }
 
 impl Texts {
-    ghost use Rattle.std.specs.Prelude.{◌≡◌, [], IfOk, OnOk, bytes_eq, length, position};
+    ghost use Rattle.std.specs.Prelude.{◌≡◌, ◌<◌, [], IfOk, OnErr, OnOk, bytes_eq, length, position};
     ghost use Rattle.kern_expression_types.specs.Before.{with_member};
 
     /// No texts.
@@ -48,18 +52,18 @@ impl Texts {
         self.texts.get_index_of(text)
     }
 
-    /// Puts a text at the end, unless it is there.
-    pub fn add(&mut self, alloc: Global, text: &[u8]) -> Result<(), AllocError>
-        ensures { OnOk result (self.new ≡ with_member self.old text.now) }
+    /// Puts a name at the end, unless it is there.
+    pub fn add(&mut self, alloc: Global, name: &Name) -> Result<(), AllocError>
+        ensures { OnOk result (self.new ≡ with_member self.old name.now) }
     {
-        self.texts.insert(Vec::from_slice(alloc, text)?)?;
+        self.texts.insert(Vec::from_slice(alloc, name.bytes())?)?;
         Ok(())
     }
 
-    /// The texts as names. It ends early for want of memory, and where a text hasn't the form of a name, as each text of a
-    /// program has.
+    /// The texts as names. It ends early only for want of memory, and only where there is a text.
     pub fn names(&self, alloc: Global) -> Result<Vec<Name>, AllocError>
-        ensures { IfOk result (λ names. names.items ≡ self.now) }
+        ensures names { IfOk result (λ names. names.items ≡ self.now) }
+        ensures memory { OnErr result (0 < length self.now) }
     {
         let mut names = Vec::new(alloc);
         for text in self.texts.as_slice().iter() {
@@ -71,13 +75,9 @@ impl Texts {
 
 // Puts a text of the form of a name behind names.
 fn push_name(names: &mut Vec<Name>, text: &[u8]) -> Result<(), AllocError>
+    requires { IsTrue (is_name text.now) }
     ensures { OnOk result (names.new.items ≡ names.old.items ++ text.now ∷ []) }
 {
-    match Name::read(text) {
-        Some(name) => {
-            names.push(name)?;
-            Ok(())
-        }
-        None => Err(AllocError),
-    }
+    names.push(Name::read(text).unwrap())?;
+    Ok(())
 }

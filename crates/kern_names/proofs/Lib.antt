@@ -1,3 +1,5 @@
 pub mod Entries
+pub mod Members
 pub mod Numbers
 pub mod Positions
+pub mod Typed

@@ -3,13 +3,13 @@
 ghost use Rattle.std.specs.Prelude.{◌≡◌, List, ℕ, IfOk};
 ghost use Rattle.kern_syntax.specs.TreeOf.{tree_of};
 ghost use Rattle.kern_calls.specs.Calls.{look_up};
-ghost use Rattle.kern_types.specs.Programs.{place_of_function};
+ghost use Rattle.kern_types.specs.Programs.{IsTyped, place_of_function};
 
 use crate::function_numbers::FunctionNumbers;
 use kern_syntax::{DeclaredType, Function};
 use std::alloc::{AllocError, Global};
 
-/// The functions of a program, each found by its name. Contracts see them by `program_of`.
+/// The functions of a typed program, each found by its name. Contracts see them by `program_of`.
 #[derive(Clone, Copy)]
 pub struct Functions<'a> {
     /// The functions in the order of the text.
@@ -17,6 +17,7 @@ pub struct Functions<'a> {
     /// Their places by their names.
     pub numbers: &'a FunctionNumbers,
     ghost numbered: { (name : List ℕ) → look_up numbers.now name ≡ place_of_function (tree_of functions.now) name },
+    ghost typed: { IsTyped (tree_of functions.now) },
 }
 
 /// The places of the functions of a program by their names. It ends early only for want of memory.

@@ -1,9 +1,10 @@
 // The names of a function with their types.
 
-ghost use Rattle.std.specs.Prelude.{◌≡◌, IfOk, OnOk, map};
-ghost use Rattle.kern_syntax.specs.TreeOf.{function_of, parameter_of};
+ghost use Rattle.std.specs.Prelude.{◌≡◌, ◌+◌, ◌<◌, Contains, IfOk, OnErr, OnOk, length, map};
+ghost use Rattle.kern_syntax.specs.TreeOf.{block_of, function_of, parameter_of};
 ghost use Rattle.kern_calls.specs.Types.{names_of};
-ghost use Rattle.kern_names.specs.Parameters.{named_parameters};
+ghost use Rattle.kern_names.specs.Assignments.{block_assignments};
+ghost use Rattle.kern_names.specs.Parameters.{AreNew, named_parameters};
 ghost use Rattle.kern_names.specs.ScopeOf.{program_of};
 
 use crate::functions::Functions;
@@ -11,17 +12,19 @@ use crate::names::Names;
 use crate::scope::Scope;
 use crate::types::type_of;
 use kern_calls::{ValueType, declared_type, wider};
-use kern_syntax::{Block, Elif, Expr, Function, Handler, Parameter, StmtKind, Target};
+use kern_syntax::{Block, Expr, Function, Handler, Parameter, StmtKind, Target};
 use std::alloc::{AllocError, Global};
 
-/// The names of a function with their types, its parameters first. It ends early for want of memory, and where the function
-/// isn't typed: where a parameter's name stands twice, or an array has more than 65,535 numbers.
+/// The names of a function of the program with their types, its parameters first. It ends early only for want of memory, and
+/// only where the function has a parameter or assigns to a name.
 pub fn names_of(
     alloc: Global,
     functions: &Functions<'_>,
     function: &Function,
 ) -> Result<Names, AllocError>
-    ensures { IfOk result (λ names. names ≡ names_of (program_of functions.now) (function_of function.now)) }
+    requires { Contains (program_of functions.now) (function_of function.now) }
+    ensures names { IfOk result (λ names. names ≡ names_of (program_of functions.now) (function_of function.now)) }
+    ensures memory { OnErr result (0 < length function.now.parameters + block_assignments (block_of function.now.body)) }
 {
     let mut names = Names::new(alloc);
     add_parameters(alloc, &mut names, function.parameters.items())?;
@@ -35,7 +38,9 @@ fn add_parameters(
     names: &mut Names,
     parameters: &[Parameter],
 ) -> Result<(), AllocError>
-    ensures { OnOk result (names.new ≡ named_parameters names.old (map parameter_of parameters.now)) }
+    requires { AreNew names.old (map parameter_of parameters.now) }
+    ensures names { OnOk result (names.new ≡ named_parameters names.old (map parameter_of parameters.now)) }
+    ensures memory { OnErr result (0 < length parameters.now) }
 {
     for parameter in parameters.iter() {
         add_parameter(alloc, names, parameter)?;
@@ -43,21 +48,25 @@ fn add_parameters(
     Ok(())
 }
 
-ghost use Rattle.std.specs.Prelude.{◌++◌, [], ◌∷◌};
+ghost use Rattle.std.specs.Prelude.{◌++◌, [], ◌∷◌, None};
+ghost use Rattle.kern_calls.specs.Calls.{look_up};
 ghost use Rattle.kern_calls.specs.Types.{declared_type};
 
 fn add_parameter(alloc: Global, names: &mut Names, parameter: &Parameter) -> Result<(), AllocError>
+    requires { look_up names.old parameter.now.name ≡ None }
     ensures { OnOk result (names.new ≡ names.old ++ (parameter.now.name, declared_type parameter.now.declared) ∷ []) }
 {
-    let name = parameter.name.bytes();
-    match names.kind(name) {
-        Some(_) => Err(AllocError),
-        None => names.add(alloc, name, declared_type(parameter.declared)),
-    }
+    names.add(
+        alloc,
+        parameter.name.bytes(),
+        declared_type(parameter.declared),
+    )
 }
 
-ghost use Rattle.kern_syntax.specs.TreeOf.{block_of, branches_of, handlers_of, statement_of};
-ghost use Rattle.kern_calls.specs.Types.{names_after, names_after_block, names_after_handlers, names_after_otherwise};
+ghost use Rattle.kern_syntax.specs.TreeOf.{handlers_of, statement_of};
+ghost use Rattle.kern_calls.specs.Types.{names_after, names_after_block, names_after_handlers};
+ghost use Rattle.kern_names.specs.Arrays.{BlockArraysFit, HandlersArraysFit, StatementArraysFit};
+ghost use Rattle.kern_names.specs.Assignments.{assignments, handlers_assignments};
 
 #[cycle(names)]
 fn add_block(
@@ -66,7 +75,9 @@ fn add_block(
     names: &mut Names,
     block: &Block,
 ) -> Result<(), AllocError>
-    ensures { OnOk result (names.new ≡ names_after_block (program_of functions.now) (block_of block.now) names.old) }
+    requires { BlockArraysFit (block_of block.now) }
+    ensures names { OnOk result (names.new ≡ names_after_block (program_of functions.now) (block_of block.now) names.old) }
+    ensures memory { OnErr result (0 < block_assignments (block_of block.now)) }
 {
     for statement in block.statements.iter() {
         add_statement(alloc, functions, names, &statement.kind)?;
@@ -81,20 +92,24 @@ fn add_statement(
     names: &mut Names,
     statement: &StmtKind,
 ) -> Result<(), AllocError>
-    ensures { OnOk result (names.new ≡ names_after (program_of functions.now) (statement_of statement.now) names.old) }
+    requires { StatementArraysFit (statement_of statement.now) }
+    ensures names { OnOk result (names.new ≡ names_after (program_of functions.now) (statement_of statement.now) names.old) }
+    ensures memory { OnErr result (0 < assignments (statement_of statement.now)) }
 {
     match statement {
         StmtKind::Assign(Target::Variable(x), e) => {
             let kind = type_in(functions, names, e);
             names.assign(alloc, x.bytes(), kind)
         }
-        StmtKind::ArrayRepeat(x, _, count) => names.assign(alloc, x.bytes(), array_of(*count)?),
+        StmtKind::ArrayRepeat(x, _, count) => names.assign(alloc, x.bytes(), array_of(*count)),
         StmtKind::ArrayList(x, elements) => {
-            names.assign(alloc, x.bytes(), array_of(elements.len() as u64)?)
+            names.assign(alloc, x.bytes(), array_of(elements.len() as u64))
         }
         StmtKind::If(_, body, branches, last) => {
             add_block(alloc, functions, names, body)?;
-            add_branches(alloc, functions, names, branches)?;
+            for branch in branches.iter() {
+                add_block(alloc, functions, names, &branch.body)?;
+            }
             add_else(alloc, functions, names, last)
         }
         StmtKind::ForTo(x, to, body) => {
@@ -145,37 +160,20 @@ fn type_in(functions: &Functions<'_>, names: &Names, e: &Expr) -> ValueType
 }
 
 ghost use Rattle.kern_calls.specs.declared.types.ValueType.TheVariants as V;
+ghost use Rattle.kern_names.specs.Arrays.{ArrayFits};
 
-// The type of an array of so many numbers, if it is an array's length at all.
-fn array_of(length: u64) -> Result<ValueType, AllocError>
-    ensures { IfOk result (λ kind. kind ≡ V.Array length) }
+// The type of an array of so many numbers.
+fn array_of(length: u64) -> ValueType
+    requires { ArrayFits length }
+    ensures { result ≡ V.Array length }
 {
-    if length > u16::MAX as u64 {
-        return Err(AllocError);
-    }
-    Ok(ValueType::Array(length as u16))
+    ValueType::Array(length as u16)
 }
 
-ghost use Rattle.std.specs.Prelude.{Option};
-ghost use Rattle.kern_syntax.specs.declared.statement.Block.{Block};
-
-// The further branches of an `if`, which may have an `else` behind them.
-#[cycle(names)]
-fn add_branches(
-    alloc: Global,
-    functions: &Functions<'_>,
-    names: &mut Names,
-    branches: &[Elif],
-) -> Result<(), AllocError>
-    ensures { OnOk result ((last : Option Block)
-        → names_after_otherwise (program_of functions.now) (branches_of branches.now last) names.old
-        ≡ names_after_otherwise (program_of functions.now) (branches_of [] last) names.new) }
-{
-    for branch in branches.iter() {
-        add_block(alloc, functions, names, &branch.body)?;
-    }
-    Ok(())
-}
+ghost use Rattle.kern_syntax.specs.TreeOf.{branches_of};
+ghost use Rattle.kern_calls.specs.Types.{names_after_otherwise};
+ghost use Rattle.kern_names.specs.Arrays.{OtherwiseArraysFit};
+ghost use Rattle.kern_names.specs.Assignments.{otherwise_assignments};
 
 // The `else` of an `if`, if it has one.
 #[cycle(names)]
@@ -185,7 +183,9 @@ fn add_else(
     names: &mut Names,
     last: &Option<Block>,
 ) -> Result<(), AllocError>
-    ensures { OnOk result (names.new ≡ names_after_otherwise (program_of functions.now) (branches_of [] last.now) names.old) }
+    requires { OtherwiseArraysFit (branches_of [] last.now) }
+    ensures names { OnOk result (names.new ≡ names_after_otherwise (program_of functions.now) (branches_of [] last.now) names.old) }
+    ensures memory { OnErr result (0 < otherwise_assignments (branches_of [] last.now)) }
 {
     match last {
         Some(body) => add_block(alloc, functions, names, body),
@@ -200,7 +200,9 @@ fn add_handlers(
     names: &mut Names,
     handlers: &[Handler],
 ) -> Result<(), AllocError>
-    ensures { OnOk result (names.new ≡ names_after_handlers (program_of functions.now) (handlers_of handlers.now) names.old) }
+    requires { HandlersArraysFit (handlers_of handlers.now) }
+    ensures names { OnOk result (names.new ≡ names_after_handlers (program_of functions.now) (handlers_of handlers.now) names.old) }
+    ensures memory { OnErr result (0 < handlers_assignments (handlers_of handlers.now)) }
 {
     for handler in handlers.iter() {
         add_block(alloc, functions, names, &handler.body)?;

@@ -3,6 +3,7 @@ use Rattle.std.proofs.lemmas.List.{length-map}
 use Rattle.kern_syntax.specs.declared.program.Function.{Function}
 use Rattle.kern_syntax.specs.TreeOf.{function_of, tree_of}
 use Rattle.kern_types.specs.Checked.{IsChecked}
+use Rattle.kern_types.specs.Programs.{IsTyped}
 use Rattle.code_forms.specs.Texts.{texts_of}
 use Rattle.code_law.proofs.Whole.{few_functions}
 use Rattle.core_code.specs.Ready.{AreReadyFrom}
@@ -10,7 +11,11 @@ use Rattle.core_code.proofs.Put.{ready_from_zero}
 use Rattle.core_code.proofs.compiling.code_of.Goals as goal
 
 pub invariant_of-program : goal.invariant_of-program
-invariant_of-program c = record { numbered = c.in_ok-numbers.ensures }
+invariant_of-program c =
+    record {
+      numbered = c.in_ok-numbers.ensures;
+      typed = subst (λ fs. IsTyped (tree_of fs)) (sym (c.functions-functions.ensures ∙ c.program.ensures.kept)) c.requires.checked.typed;
+    }
 
 -- a checked program has few functions
 few : (functions checked : List Function) → functions ≡ checked → IsChecked (tree_of checked) → length functions < 2 ^ 16

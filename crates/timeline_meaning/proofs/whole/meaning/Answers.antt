@@ -2,6 +2,8 @@ use Rattle.std.proofs.Common.{rules, ◌≡◌, ap, sym, subst, ◌∙◌, FitsS
 use Rattle.std.specs.Int.{w64}
 use Rattle.std.proofs.lemmas.Int.{to_z-of_z}
 use Rattle.kern_syntax.specs.TreeOf.{tree_of}
+use Rattle.kern_types.specs.Programs.{IsTyped}
+use Rattle.kern_names.proofs.Members.{first_is_among}
 use Rattle.meaning_runnable.proofs.Functions.{typed_can_run}
 use Rattle.meaning_steps.specs.RunnableStatements.{AreRunnableFunctions}
 use Rattle.timeline_sem.specs.Programs.{Meaning, meaning, opening}
@@ -10,7 +12,11 @@ use Rattle.timeline_meaning.proofs.First.{gives_meaning}
 use Rattle.timeline_meaning.proofs.whole.meaning.Goals as goal
 
 pub invariant_of-program : goal.invariant_of-program
-invariant_of-program c = record { numbered = c.in_ok-numbers.ensures }
+invariant_of-program c =
+    record {
+      numbered = c.in_ok-numbers.ensures;
+      typed = subst (λ fs. IsTyped (tree_of fs)) (sym c.functions-functions.ensures) c.program.ensures.typed;
+    }
 
 pub run_first-requires-clause-functions : goal.run_first-requires-clause-functions
 run_first-requires-clause-functions c =
@@ -19,6 +25,10 @@ run_first-requires-clause-functions c =
 pub run_first-requires-clause-body : goal.run_first-requires-clause-body
 run_first-requires-clause-body c =
     first_runs (tree_of c.functions-functions.result.now) c.args.function c.function_at-first.result c.function_at-first.ensures (run_first-requires-clause-functions c)
+
+pub run_first-requires-clause-own : goal.run_first-requires-clause-own
+run_first-requires-clause-own c =
+    first_is_among (tree_of c.functions-functions.result.now) c.args.function c.function_at-first.result c.function_at-first.ensures
 
 pub returns : goal.returns
 returns c =
