@@ -1,5 +1,6 @@
 // Calls, and the functions of a program.
 
+ghost use Rattle.std.specs.Prelude.{Contains};
 ghost use Rattle.kern_calls.specs.Calls.{builtin_named};
 ghost use Rattle.kern_names.specs.ScopeOf.{program_of};
 ghost use Rattle.kern_syntax.specs.TreeOf.{arguments_of, block_of, function_of};
@@ -58,7 +59,7 @@ fn run_named(
     }
 }
 
-/// The body of a function, with names of its own, where so many functions more may become active.
+/// The body of a function of the program, with names of its own, where so many functions more may become active.
 #[cycle(runs)]
 pub fn run_function(
     alloc: Global,
@@ -70,6 +71,7 @@ pub fn run_function(
 ) -> Result<i64, Early>
     requires functions { AreRunnableFunctions (program_of functions.now) }
     requires body { IsRunnableBlock (block_of function.now.body) }
+    requires own { Contains (program_of functions.now) (function_of function.now) }
     ensures { Does result state.new (function_body (program_of functions.now) (function_call (program_of functions.now) room) (function_of function.now) numbers.now state.old) }
 {
     let names = names_of(alloc, functions, function)?;

@@ -88,16 +88,18 @@ pub fn enter_call(state: &mut State<'_>, room: u32) -> Result<u32, Reason>
     Ok(room - 1)
 }
 
-ghost use Rattle.std.specs.Prelude.{⊤, List, ℕ};
+ghost use Rattle.std.specs.Prelude.{⊤, Err, List, ℕ};
 ghost use Rattle.meaning_state.specs.Does.{Does};
 ghost use Rattle.rtio_types.specs.declared.request.Value.{Value};
 ghost use Rattle.timeline_sem.specs.Actions.{Completion, State as Meant};
 ghost use Rattle.timeline_sem.specs.Programs.{leave_function};
 
-/// What a function gives at the end of its body: the value of the `return` that was reached, and else 0.
+/// What a function gives at the end of its body: the value of the `return` that was reached, and else 0. Want of memory is
+/// the body's own alone.
 pub fn finished(ran: Result<(), Early>) -> Result<i64, Early>
-    ensures { (values : List (List ℕ × Value)) (s : Meant) (m : Completion ⊤) →
+    ensures gives { (values : List (List ℕ × Value)) (s : Meant) (m : Completion ⊤) →
         Does ran s m → Does result (record s { values = values }) (leave_function values m) }
+    ensures memory { result ≡ Err Early.Memory → ran ≡ Err Early.Memory }
 {
     match ran {
         Ok(()) => Ok(0),

@@ -60,7 +60,7 @@ fn verdict_of(ran: Result<Span, Early>, outs: u64) -> Result<Verdict, AllocError
     }
 }
 
-ghost use Rattle.std.specs.Prelude.{[], option_map, IfSome};
+ghost use Rattle.std.specs.Prelude.{[], option_map, Contains, IfSome};
 ghost use Rattle.kern_names.specs.ScopeOf.{program_of};
 ghost use Rattle.kern_syntax.specs.TreeOf.{block_of, function_of, tree_of};
 ghost use Rattle.meaning_steps.specs.RunnableStatements.{AreRunnableFunctions, IsRunnableBlock};
@@ -76,6 +76,7 @@ fn run_first(
 ) -> Result<Span, Early>
     requires functions { AreRunnableFunctions (program_of functions.now) }
     requires body { IfSome first (λ f. IsRunnableBlock (block_of f.now.body)) }
+    requires own { IfSome first (λ f. Contains (program_of functions.now) (function_of f.now)) }
     ensures { Does result state.new (optional_body (program_of functions.now) (function_call (program_of functions.now) call_room) (option_map (λ f. function_of f.now) first.entry) [] state.old) }
 {
     match first {

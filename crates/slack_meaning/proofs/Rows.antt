@@ -277,6 +277,10 @@ span_as_bound = refl
 span_awaited : verdict (reset ∷ reset ∷ method_one (codes "core") (codes "wait_until_mu") now ∷ []) 8 128 ≡ Open 2 K.Span
 span_awaited = refl
 
+-- it is used before the request's unit is asked for: here none is left
+used_before_the_unit : verdict_of (ended (main_of (reset ∷ reset ∷ set_d now ∷ [])) 2 8 128) ≡ Open 2 K.Span
+used_before_the_unit = refl
+
 -- at cost 0 there is none
 no_span : verdict (reset ∷ reset ∷ assign a (binary Multiply now (integer 1)) ∷ set_d (variable a) ∷ []) 0 128 ≡ Yes 0
 unfolding int_wrap
@@ -295,6 +299,18 @@ span_as_far = refl
 
 span_too_far : verdict (reset ∷ reset ∷ delay_mu 4611686018427262105 ∷ []) 800 128 ≡ Open 2 K.Far
 span_too_far = refl
+
+-- nor the stamp of an output that is played, which comes before its unit: the fifth unit is the fetch's, and none is left
+abbrev played_too_far : List Statement
+played_too_far = reset ∷ reset ∷ recorded_p (delay_mu 4611686018427387904 ∷ ttl0_on ∷ []) ∷ with_p (codes "playback") ∷ []
+
+not_fetched : verdict_of (ended (main_of played_too_far) 4 8 128) ≡ Yes 0
+unfolding int_wrap
+not_fetched = refl
+
+far_before_the_unit : verdict_of (ended (main_of played_too_far) 5 8 128) ≡ Open 4 K.Far
+unfolding int_wrap
+far_before_the_unit = refl
 
 -- a kernel that catches up with the counter: it may have to move the cursor, or not
 abbrev catching_up : List Statement

@@ -1,5 +1,6 @@
 mod Arguments
 mod Entered
 mod Handled
+mod Known
 mod Operated
 mod Turning

@@ -1,23 +1,20 @@
-// Statements, and the branches of an `if`.
+// Statements and blocks.
 
-ghost use Rattle.std.specs.Prelude.{option_map};
-ghost use Rattle.kern_syntax.specs.Tree.{Otherwise, no_else};
-ghost use Rattle.kern_syntax.specs.TreeOf.{block_of, elif_of, else_of, statement_of};
+ghost use Rattle.kern_syntax.specs.TreeOf.{block_of, statement_of};
 ghost use Rattle.meaning_frames.specs.Frames.{scope_in};
 ghost use Rattle.slack_state.specs.Does.{Does};
-ghost use Rattle.meaning_steps.specs.RunnableStatements.{IsRunnableBlock, IsRunnableOtherwise, IsRunnableStatement};
-ghost use Rattle.slack_meaning.specs.Statements.{block, otherwise, statement};
+ghost use Rattle.meaning_steps.specs.RunnableStatements.{IsRunnableBlock, IsRunnableStatement};
+ghost use Rattle.slack_meaning.specs.Statements.{block, statement};
 ghost use Rattle.slack_runs.specs.Frames.{calls_in};
-ghost use Rattle.slack_steps.specs.Turns.{GoesOn};
 
-use crate::expressions::evaluate;
-use crate::loops::{run_for, run_while};
-use crate::simple::{assign, assign_list, assign_repeated, augment, give_back};
-use crate::timed::{handle, run_parallel, run_recorded};
-use kern_syntax::{Block, Elif, StmtKind};
+use crate::branches::run_if;
+use crate::loops::{run_for_from_to, run_for_to, run_while};
+use crate::simple::{assign, assign_list, assign_repeated, augment, evaluate_alone, give_back};
+use crate::timed::{run_parallel, run_recorded, run_try};
+use kern_syntax::{Block, StmtKind};
 use meaning_frames::Frame;
-use meaning_steps::is_true;
-use slack_state::{Early, Reason, State, exactly};
+use slack_state::{Early, Reason, State};
+use slack_steps::run_known;
 use std::alloc::Global;
 
 /// The statements of a block, one after another.
@@ -48,15 +45,29 @@ pub fn run_statement(
     requires { IsRunnableStatement (statement_of form.now) }
     ensures { Does result state.new (statement (scope_in frame.now) (calls_in frame.now) (statement_of form.now) state.old) }
 {
+    if run_known(&frame.scope, state, form) {
+        return Ok(());
+    }
+    run_parts(alloc, frame, state, form)
+}
+
+// A statement, part by part. Each arm is a call whose end is this one's, so that nothing is kept here for what parts may end with.
+#[cycle(runs)]
+fn run_parts(
+    alloc: Global,
+    frame: &Frame<'_>,
+    state: &mut State,
+    form: &StmtKind,
+) -> Result<(), Early>
+    requires { IsRunnableStatement (statement_of form.now) }
+    ensures { Does result state.new (statement (scope_in frame.now) (calls_in frame.now) (statement_of form.now) state.old) }
+{
     match form {
         StmtKind::Pass => Ok(()),
         StmtKind::Break => Err(Early::Ended(Reason::Break)),
         StmtKind::Continue => Err(Early::Ended(Reason::Continue)),
         StmtKind::Return(value) => give_back(alloc, frame, state, value),
-        StmtKind::Evaluate(e) => {
-            evaluate(alloc, frame, state, e)?;
-            Ok(())
-        }
+        StmtKind::Evaluate(e) => evaluate_alone(alloc, frame, state, e),
         StmtKind::Assign(target, e) => assign(alloc, frame, state, target, e),
         StmtKind::Augmented(target, operator, e) => {
             augment(alloc, frame, state, target, *operator, e)
@@ -68,76 +79,16 @@ pub fn run_statement(
             assign_list(alloc, frame, state, x.bytes(), elements)
         }
         StmtKind::If(condition, body, branches, last) => {
-            let holds = evaluate(alloc, frame, state, condition)?;
-            if is_true(state.number(holds)?) {
-                return run_block(alloc, frame, state, body);
-            }
-            for branch in branches.iter() {
-                if !run_branch(alloc, frame, state, branch)? {
-                    return Ok(());
-                }
-            }
-            run_else(alloc, frame, state, last)
+            run_if(alloc, frame, state, condition, body, branches, last)
         }
         StmtKind::While(condition, body) => { run_while(alloc, frame, state, body, condition) }
-        StmtKind::ForTo(x, to, body) => {
-            let end = evaluate(alloc, frame, state, to)?;
-            run_for(alloc, frame, state, body, x.bytes(), exactly(0), end)
-        }
+        StmtKind::ForTo(x, to, body) => run_for_to(alloc, frame, state, body, x.bytes(), to),
         StmtKind::ForFromTo(x, from, to, body) => {
-            let start = evaluate(alloc, frame, state, from)?;
-            let end = evaluate(alloc, frame, state, to)?;
-            run_for(alloc, frame, state, body, x.bytes(), start, end)
+            run_for_from_to(alloc, frame, state, body, x.bytes(), from, to)
         }
         StmtKind::Parallel(body) => run_parallel(alloc, frame, state, body),
         StmtKind::Sequential(body) => run_block(alloc, frame, state, body),
         StmtKind::Record(name, body) => run_recorded(alloc, frame, state, body, *name),
-        StmtKind::Try(body, handlers) => {
-            match run_block(alloc, frame, state, body) {
-                Err(Early::Ended(Reason::Raised(exception))) => {
-                    handle(alloc, frame, state, handlers, exception)
-                }
-                ran => ran,
-            }
-        }
-    }
-}
-
-// A further branch of an `if`. Whether it didn't run.
-#[cycle(runs)]
-fn run_branch(
-    alloc: Global,
-    frame: &Frame<'_>,
-    state: &mut State,
-    branch: &Elif,
-) -> Result<bool, Early>
-    requires { IsRunnableOtherwise (elif_of branch.now no_else) }
-    ensures { (rest : Otherwise) →
-        GoesOn result state.new
-        (otherwise (scope_in frame.now) (calls_in frame.now) (elif_of branch.now rest) state.old)
-        (otherwise (scope_in frame.now) (calls_in frame.now) rest) }
-{
-    let holds = evaluate(alloc, frame, state, &branch.condition)?;
-    if !is_true(state.number(holds)?) {
-        return Ok(true);
-    }
-    run_block(alloc, frame, state, &branch.body)?;
-    Ok(false)
-}
-
-// The `else` of an `if`, if it has one.
-#[cycle(runs)]
-fn run_else(
-    alloc: Global,
-    frame: &Frame<'_>,
-    state: &mut State,
-    last: &Option<Block>,
-) -> Result<(), Early>
-    requires { IsRunnableOtherwise (else_of (option_map block_of last.now)) }
-    ensures { Does result state.new (otherwise (scope_in frame.now) (calls_in frame.now) (else_of (option_map block_of last.now)) state.old) }
-{
-    match last {
-        Some(body) => run_block(alloc, frame, state, body),
-        None => Ok(()),
+        StmtKind::Try(body, handlers) => run_try(alloc, frame, state, body, handlers),
     }
 }

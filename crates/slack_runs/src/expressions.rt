@@ -17,12 +17,30 @@ use meaning_numbers::{changed, compared};
 use meaning_steps::{is_true, number_of};
 use slack_meaning::Span;
 use slack_state::{Early, State, exactly};
-use slack_steps::{operate, perform_method};
+use slack_steps::{known_number, operate, perform_method};
 use std::alloc::{AllocError, Global};
 
 /// The value of an expression, 0 where it has none; 0 or 1 of a truth value. Its operands run from left to right.
 #[cycle(runs)]
 pub fn evaluate(
+    alloc: Global,
+    frame: &Frame<'_>,
+    state: &mut State,
+    e: &Expr,
+) -> Result<Span, Early>
+    requires { IsRunnable (expression_of e.now) }
+    ensures { Does result state.new (expression (scope_in frame.now) (calls_in frame.now) (expression_of e.now) state.old) }
+{
+    match known_number(&frame.scope, state, e) {
+        Some(number) => Ok(exactly(number)),
+        None => evaluate_parts(alloc, frame, state, e),
+    }
+}
+
+/// The same, operand by operand. It stands apart because what an operand may end with takes much room.
+#[inline(never)]
+#[cycle(runs)]
+pub fn evaluate_parts(
     alloc: Global,
     frame: &Frame<'_>,
     state: &mut State,
@@ -37,45 +55,45 @@ pub fn evaluate(
         Expr::False => Ok(exactly(0)),
         Expr::Variable(x) => Ok(state.span(x.bytes())),
         Expr::Index(array, index) => {
-            let place = evaluate(alloc, frame, state, index)?;
+            let place = evaluate_parts(alloc, frame, state, index)?;
             Ok(state.element(array.bytes(), place)?)
         }
-        Expr::Group(inner) => evaluate(alloc, frame, state, inner),
+        Expr::Group(inner) => evaluate_parts(alloc, frame, state, inner),
         Expr::Unary(operator, operand) => {
-            let a = evaluate(alloc, frame, state, operand)?;
+            let a = evaluate_parts(alloc, frame, state, operand)?;
             let number = state.number(a)?;
             Ok(exactly(changed(*operator, type_of(&frame.scope, operand), number)))
         }
         Expr::Binary(operator, left, right) => {
-            let a = evaluate(alloc, frame, state, left)?;
-            let b = evaluate(alloc, frame, state, right)?;
+            let a = evaluate_parts(alloc, frame, state, left)?;
+            let b = evaluate_parts(alloc, frame, state, right)?;
             Ok(operate(state, *operator, type_of(&frame.scope, e), a, b)?)
         }
         Expr::Compare(comparison, left, right) => {
-            let a = evaluate(alloc, frame, state, left)?;
-            let b = evaluate(alloc, frame, state, right)?;
+            let a = evaluate_parts(alloc, frame, state, left)?;
+            let b = evaluate_parts(alloc, frame, state, right)?;
             let m = state.number(a)?;
             let n = state.number(b)?;
             Ok(exactly(number_of(compared(*comparison, m, n))))
         }
         Expr::Not(operand) => {
-            let a = evaluate(alloc, frame, state, operand)?;
+            let a = evaluate_parts(alloc, frame, state, operand)?;
             let number = state.number(a)?;
             Ok(exactly(number_of(!is_true(number))))
         }
         Expr::And(left, right) => {
-            let a = evaluate(alloc, frame, state, left)?;
+            let a = evaluate_parts(alloc, frame, state, left)?;
             if !is_true(state.number(a)?) {
                 return Ok(exactly(0));
             }
-            evaluate(alloc, frame, state, right)
+            evaluate_parts(alloc, frame, state, right)
         }
         Expr::Or(left, right) => {
-            let a = evaluate(alloc, frame, state, left)?;
+            let a = evaluate_parts(alloc, frame, state, left)?;
             if is_true(state.number(a)?) {
                 return Ok(exactly(1));
             }
-            evaluate(alloc, frame, state, right)
+            evaluate_parts(alloc, frame, state, right)
         }
         Expr::Call(function, given) => {
             let spans = evaluate_all(alloc, frame, state, given)?;

@@ -3,6 +3,7 @@
 #![tactic(auto)]
 
 mod blocks;
+mod branches;
 mod expressions;
 mod functions;
 mod loops;

@@ -1,7 +1,8 @@
 // Loops, turn by turn.
 
-ghost use Rattle.std.specs.Prelude.{⊤};
+ghost use Rattle.std.specs.Prelude.{⊤, Some, None};
 ghost use Rattle.std.specs.Int.{int_gap};
+ghost use Rattle.kern_syntax.specs.Tree.{for_range};
 ghost use Rattle.kern_syntax.specs.TreeOf.{block_of, expression_of};
 ghost use Rattle.meaning_frames.specs.Frames.{scope_in};
 ghost use Rattle.slack_state.specs.Does.{Does};
@@ -9,7 +10,7 @@ ghost use Rattle.meaning_steps.specs.Runnable.{IsRunnable};
 ghost use Rattle.meaning_steps.specs.RunnableStatements.{IsRunnableBlock};
 ghost use Rattle.slack_meaning.specs.Actions.{Action};
 ghost use Rattle.slack_meaning.specs.Expressions.{expression};
-ghost use Rattle.slack_meaning.specs.Statements.{block, for_turns, turn, turns_between, while_loop};
+ghost use Rattle.slack_meaning.specs.Statements.{block, for_turns, statement, turn, turns_between, while_loop};
 ghost use Rattle.slack_runs.specs.Frames.{calls_in};
 ghost use Rattle.slack_steps.specs.Turns.{GoesOn, set_then};
 
@@ -68,9 +69,48 @@ fn run_turn(
     settled(run_block(alloc, frame, state, body))
 }
 
-/// A `for` between two values, which must be numbers.
+/// A `for` from 0 to a value.
 #[cycle(runs)]
-pub fn run_for(
+pub fn run_for_to(
+    alloc: Global,
+    frame: &Frame<'_>,
+    state: &mut State,
+    body: &Block,
+    x: &[u8],
+    to: &Expr,
+) -> Result<(), Early>
+    requires to { IsRunnable (expression_of to.now) }
+    requires body { IsRunnableBlock (block_of body.now) }
+    ensures { Does result state.new (statement (scope_in frame.now) (calls_in frame.now) (for_range x.now None (expression_of to.now) (block_of body.now)) state.old) }
+{
+    let end = evaluate(alloc, frame, state, to)?;
+    run_for(alloc, frame, state, body, x, exactly(0), end)
+}
+
+/// A `for` from a value to another, which both run before either is used.
+#[cycle(runs)]
+pub fn run_for_from_to(
+    alloc: Global,
+    frame: &Frame<'_>,
+    state: &mut State,
+    body: &Block,
+    x: &[u8],
+    from: &Expr,
+    to: &Expr,
+) -> Result<(), Early>
+    requires from { IsRunnable (expression_of from.now) }
+    requires to { IsRunnable (expression_of to.now) }
+    requires body { IsRunnableBlock (block_of body.now) }
+    ensures { Does result state.new (statement (scope_in frame.now) (calls_in frame.now) (for_range x.now (Some (expression_of from.now)) (expression_of to.now) (block_of body.now)) state.old) }
+{
+    let start = evaluate(alloc, frame, state, from)?;
+    let end = evaluate(alloc, frame, state, to)?;
+    run_for(alloc, frame, state, body, x, start, end)
+}
+
+// A `for` between two values, which must be numbers.
+#[cycle(runs)]
+fn run_for(
     alloc: Global,
     frame: &Frame<'_>,
     state: &mut State,

@@ -20,6 +20,21 @@ use slack_state::{Early, Held, Reason, State, exactly};
 use slack_steps::{hold_sum, set_sum};
 use std::alloc::Global;
 
+/// An expression whose value is dropped.
+#[cycle(runs)]
+pub fn evaluate_alone(
+    alloc: Global,
+    frame: &Frame<'_>,
+    state: &mut State,
+    e: &Expr,
+) -> Result<(), Early>
+    requires { IsRunnable (expression_of e.now) }
+    ensures { Does result state.new (statement (scope_in frame.now) (calls_in frame.now) (T.evaluate (expression_of e.now)) state.old) }
+{
+    evaluate(alloc, frame, state, e)?;
+    Ok(())
+}
+
 /// A `return`, which ends the function with its value.
 #[cycle(runs)]
 pub fn give_back(

@@ -1,10 +1,11 @@
 // Blocks on the timeline, and handlers.
 
+ghost use Rattle.kern_syntax.specs.Tree.{try_do};
 ghost use Rattle.kern_syntax.specs.TreeOf.{block_of, handlers_of};
 ghost use Rattle.meaning_frames.specs.Frames.{scope_in};
 ghost use Rattle.slack_state.specs.Does.{Does};
 ghost use Rattle.meaning_steps.specs.RunnableStatements.{AreRunnableHandlers, IsRunnableBlock};
-ghost use Rattle.slack_meaning.specs.Statements.{block, handler, parallel_block, recorded};
+ghost use Rattle.slack_meaning.specs.Statements.{block, handler, parallel_block, recorded, statement};
 ghost use Rattle.slack_runs.specs.Frames.{calls_in};
 
 use crate::blocks::{run_block, run_statement};
@@ -55,9 +56,30 @@ pub fn run_recorded(
     end_recording(alloc, state, name, before, ran)
 }
 
-/// The first branch of a `try` with the exception's name, or else the exception goes further.
+/// A `try`: an exception of its body goes to its handlers.
 #[cycle(runs)]
-pub fn handle(
+pub fn run_try(
+    alloc: Global,
+    frame: &Frame<'_>,
+    state: &mut State,
+    body: &Block,
+    handlers: &[Handler],
+) -> Result<(), Early>
+    requires body { IsRunnableBlock (block_of body.now) }
+    requires handlers { AreRunnableHandlers (handlers_of handlers.now) }
+    ensures { Does result state.new (statement (scope_in frame.now) (calls_in frame.now) (try_do (block_of body.now) (handlers_of handlers.now)) state.old) }
+{
+    match run_block(alloc, frame, state, body) {
+        Err(Early::Ended(Reason::Raised(exception))) => {
+            handle(alloc, frame, state, handlers, exception)
+        }
+        ran => ran,
+    }
+}
+
+// The first branch of a `try` with the exception's name, or else the exception goes further.
+#[cycle(runs)]
+fn handle(
     alloc: Global,
     frame: &Frame<'_>,
     state: &mut State,

@@ -87,15 +87,17 @@ pub fn enter_call(state: &mut State, room: u32) -> Result<u32, Reason>
     Ok(room - 1)
 }
 
-ghost use Rattle.std.specs.Prelude.{⊤, List, ℕ};
+ghost use Rattle.std.specs.Prelude.{⊤, Err, List, ℕ};
 ghost use Rattle.slack_meaning.specs.Actions.{Completion, Held as Kept, State as Run};
 ghost use Rattle.slack_meaning.specs.Programs.{leave_function};
 ghost use Rattle.slack_state.specs.Does.{Does};
 
-/// What a function gives at the end of its body: the value of the `return` that was reached, and else 0.
+/// What a function gives at the end of its body: the value of the `return` that was reached, and else 0. Want of memory is
+/// the body's own alone.
 pub fn finished(ran: Result<(), Early>) -> Result<Span, Early>
-    ensures { (values : List (List ℕ × Kept)) (s : Run) (m : Completion ⊤) →
+    ensures gives { (values : List (List ℕ × Kept)) (s : Run) (m : Completion ⊤) →
         Does ran s m → Does result (record s { values = values }) (leave_function values m) }
+    ensures memory { result ≡ Err Early.Memory → ran ≡ Err Early.Memory }
 {
     match ran {
         Ok(()) => Ok(exactly(0)),

@@ -67,6 +67,49 @@ fn operate_spans(
     }
 }
 
+ghost use Rattle.std.specs.Prelude.{◌≡◌, IfSome};
+ghost use Rattle.std.specs.Int.{int_wrap};
+ghost use Rattle.kern_calls.specs.declared.types.ValueType.{ValueType as Kind};
+ghost use Rattle.kern_calls.specs.Types.{width_of};
+ghost use Rattle.slack_steps.specs.Known.{IsResult};
+
+// A number that wraps to itself whatever the type, if it is one.
+fn word(number: i64) -> Option<i64>
+    ensures { IfSome result (λ n. (t : Kind) → int_wrap (width_of t) number ≡ n) }
+{
+    if number < i32::MIN as i64 || (i32::MAX as i64) < number {
+        return None;
+    }
+    Some(number)
+}
+
+// The result of an operator, where it is the same whatever the type.
+fn common_result(operator: BinaryOperator, a: i64, b: i64) -> Option<i64>
+    ensures { IfSome result (IsResult operator a b) }
+{
+    let long = operated(operator, ValueType::Int64, a, b)?;
+    let short = operated(operator, ValueType::Int32, a, b)?;
+    if long != short {
+        return None;
+    }
+    Some(long)
+}
+
+/// The result of an operator on two numbers, where it is seen without the type to be the same whatever the type.
+pub fn plain_result(operator: BinaryOperator, a: i64, b: i64) -> Option<i64>
+    ensures { IfSome result (IsResult operator a b) }
+{
+    match operator {
+        BinaryOperator::Add => word(a.checked_add(b)?),
+        BinaryOperator::Subtract => word(a.checked_sub(b)?),
+        BinaryOperator::Multiply => word(a.checked_mul(b)?),
+        BinaryOperator::BitAnd => word(a & b),
+        BinaryOperator::BitXor => word(a ^ b),
+        BinaryOperator::BitOr => word(a | b),
+        _ => common_result(operator, a, b),
+    }
+}
+
 /// The result of an operator. A span may be added to or lessened by a number, and a span may be added to a span.
 pub fn operate(
     state: &State,

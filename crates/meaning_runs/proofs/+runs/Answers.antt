@@ -10,6 +10,7 @@ use Rattle.kern_syntax.specs.Tree.{FunctionTree, binary, no_more}
 use Rattle.kern_syntax.specs.TreeOf.{expression_of, arguments_of, argument_of, block_of, function_of, handlers_of}
 use Rattle.kern_calls.specs.Types.{function_named, names_of, type_of}
 use Rattle.kern_names.specs.ScopeOf.{program_of}
+use Rattle.kern_names.proofs.Members.{found_is_among}
 use Rattle.meaning_frames.specs.Frames.{scope_in}
 use Rattle.meaning_runs.specs.Frames.{calls_in}
 use Rattle.meaning_state.specs.Does.{Does, EndsAs, reason_of}
@@ -253,10 +254,10 @@ functions::run_function-returns t c =
     let s = c.args.state.now in
     let inside = c.exchange-before.new.self in
     let names = c.in_ok-names.names in
-    let known : names ≡ names_of program (function_of c.args.function.now) = c.in_ok-names.ensures in
+    let known : names ≡ names_of program (function_of c.args.function.now) = c.in_ok-names.ensures.names in
     let entered : inside ≡ record s { values = initial_values names c.args.numbers.now } = c.exchange-before.ensures.exchanged ∙ ap (λ values. record s { values = values }) c.in_ok-values.ensures in
     let back : c.exchange.new.self ≡ record c.run_block-ran.new.state { values = s.values } = c.exchange.ensures.exchanged ∙ ap (λ values. record c.run_block-ran.new.state { values = values }) c.exchange-before.ensures.before in
-    left_function program (function_call program c.args.room) (function_of c.args.function.now) c.args.numbers.now s inside c.run_block-ran.new.state c.exchange.new.self names c.run_block-ran.result c.finished.result known entered c.run_block-ran.ensures back c.finished.ensures
+    left_function program (function_call program c.args.room) (function_of c.args.function.now) c.args.numbers.now s inside c.run_block-ran.new.state c.exchange.new.self names c.run_block-ran.result c.finished.result known entered c.run_block-ran.ensures back c.finished.ensures.gives
 
 pub functions::run_named-run_function-requires : goal.functions::run_named-run_function-requires
 functions::run_named-run_function-requires t c =
@@ -268,7 +269,7 @@ functions::run_named-run_function-requires t c =
     let small = found_smaller program test f found in
     let less = room_left c.args.frame.now.room left c.args.state.now c.enter_call.new.state c.in_ok-room.ensures in
     let falls = room_falls c.args.frame.now.room left (program_size program) (block_size f.body) less small in
-    (subst (λ t. left * program_size program + (block_size f.body + 1) < t) c.decreases falls, (c.args.frame.now.runnable, found_runs program test f found c.args.frame.now.runnable))
+    (subst (λ t. left * program_size program + (block_size f.body + 1) < t) c.decreases falls, (c.args.frame.now.runnable, (found_runs program test f found c.args.frame.now.runnable, found_is_among program test f found)))
 
 pub functions::run_named-returns-in-Some : goal.functions::run_named-returns-in-Some
 functions::run_named-returns-in-Some t c =

@@ -6,10 +6,11 @@ use Rattle.std.proofs.lemmas.Int.{to_z-of_z}
 use Rattle.std.proofs.lemmas.Result.{err_from_is_err_and}
 use Rattle.kern_syntax.specs.declared.expression.Argument.TheFolds.{the_lemmas}
 use Rattle.kern_syntax.specs.declared.statement.StmtKind.TheFolds as Statements
-use Rattle.kern_syntax.specs.Tree.{FunctionTree, Statement, augment_element, binary, no_more}
-use Rattle.kern_syntax.specs.TreeOf.{expression_of, arguments_of, argument_of, augment_of, block_of, function_of, handlers_of}
+use Rattle.kern_syntax.specs.Tree.{FunctionTree, Statement, augment_element, binary, for_range, if_then, no_more}
+use Rattle.kern_syntax.specs.TreeOf.{expression_of, arguments_of, argument_of, augment_of, block_of, branches_of, function_of, handlers_of, statement_of}
 use Rattle.kern_calls.specs.Types.{function_named, names_of, type_of}
 use Rattle.kern_names.specs.ScopeOf.{program_of}
+use Rattle.kern_names.proofs.Members.{found_is_among}
 use Rattle.rtio_types.specs.Integers.{is_true}
 use Rattle.meaning_steps.specs.Handling.{handler_of}
 use Rattle.meaning_steps.specs.Runnable.{AreRunnable}
@@ -20,18 +21,21 @@ use Rattle.meaning_frames.proofs.Found.{found_runs, found_smaller, room_falls}
 use Rattle.meaning_frames.proofs.Handled.{handled_runs, handled_smaller}
 use Rattle.meaning_frames.proofs.Items.{drop_item}
 use Rattle.meaning_frames.proofs.Turning.{next_fits}
+use Rattle.slack_meaning.specs.Spans.{exactly}
 use Rattle.slack_meaning.specs.Actions.{normal, early, give, as_number, ◌>>=◌}
 use Rattle.slack_meaning.specs.Expressions.{arguments, expression}
-use Rattle.slack_meaning.specs.Statements.{block, for_turns, statement, turn, while_loop, while_turns}
+use Rattle.slack_meaning.specs.Statements.{block, either, for_turns, otherwise, statement, turn, while_loop, while_turns}
 use Rattle.slack_meaning.specs.Programs.{function_body, function_call, initial_values, optional_body}
 use Rattle.slack_state.specs.Does.{Does, EndsAs}
 use Rattle.slack_state.specs.Ends.{reason_of}
+use Rattle.slack_steps.specs.Known.{HasRun}
 use Rattle.slack_steps.specs.Turns.{GoesOn, set_then}
 use Rattle.slack_runs.specs.Frames.{calls_in}
 use Rattle.slack_runs.specs.Values.{first_argument}
 use Rattle.slack_runs.proofs.Arguments.{argument_read, argument_ended}
 use Rattle.slack_runs.proofs.Entered.{call_entered, left_function, room_left}
 use Rattle.slack_runs.proofs.Handled.{handled, unhandled}
+use Rattle.slack_runs.proofs.Known.{if_known}
 use Rattle.slack_runs.proofs.Operated.{binary_then, sum_then}
 use Rattle.slack_runs.proofs.Turning.{for_here, while_here, while_over, while_stopped}
 use Rattle.slack_runs.proofs.+runs.Goals as goal
@@ -42,6 +46,44 @@ blocks::run_block-run_statement-requires t c = grind (Statements.the_lemmas, ari
 
 pub blocks::run_block-returns : goal.blocks::run_block-returns
 blocks::run_block-returns t c = grind (Statements.the_lemmas, arith, common_steps)
+
+pub blocks::run_statement-returns-then-run_known : goal.blocks::run_statement-returns-then-run_known
+blocks::run_statement-returns-then-run_known t c =
+    let callee = calls_in c.args.frame.now in
+    let does = statement (scope_in c.args.frame.now) callee (statement_of c.args.form.now) in
+    subst (λ b. HasRun b c.args.state.now c.run_known.new.state does) c.if-run_known.true (c.run_known.ensures callee)
+
+pub blocks::run_statement-returns : goal.blocks::run_statement-returns
+blocks::run_statement-returns t c =
+    let callee = calls_in c.args.frame.now in
+    let does = statement (scope_in c.args.frame.now) callee (statement_of c.args.form.now) in
+    let same : c.run_known.new.state ≡ c.args.state.now = subst (λ b. HasRun b c.args.state.now c.run_known.new.state does) c.if-run_known.false (c.run_known.ensures callee) in
+    subst (λ s. Does c.run_parts.result c.run_parts.new.state (does s)) same c.run_parts.ensures
+
+pub blocks::run_parts-returns-in-ForFromTo : goal.blocks::run_parts-returns-in-ForFromTo
+blocks::run_parts-returns-in-ForFromTo t c =
+    let from = expression_of c.in-ForFromTo.from in
+    let to = expression_of c.in-ForFromTo.to in
+    let body = block_of c.in-ForFromTo.body in
+    let does : Statement → Type 0 = λ s. Does c.run_for_from_to.result c.run_for_from_to.new.state (statement (scope_in c.args.frame.now) (calls_in c.args.frame.now) s c.args.state.now) in
+    let tree : statement_of c.args.form.now ≡ for_range c.in-ForFromTo.x (Some from) to body = search (rules, Statements.the_lemmas) in
+    let called : does (for_range c.bytes-in-ForFromTo.result.now (Some from) to body) = c.run_for_from_to.ensures in
+    subst does (ap (λ x. for_range x (Some from) to body) c.bytes-in-ForFromTo.ensures ∙ sym tree) called
+
+pub branches::run_if-returns-in-Some : goal.branches::run_if-returns-in-Some
+branches::run_if-returns-in-Some t c =
+    let scope = scope_in c.args.frame.now in
+    let callee = calls_in c.args.frame.now in
+    let s = c.args.state.now in
+    let number = c.in-Some.number in
+    let condition = expression_of c.args.condition.now in
+    let body = block_of c.args.body.now in
+    let rest = branches_of c.args.branches.now c.args.last.now in
+    let fits : FitsSigned w64 number = search rules in
+    let is : is_true number ≡ c.is_true.result = sym (c.is_true.ensures ∙ ap is_true (to_z-of_z w64 number fits)) in
+    let whole : statement scope callee (if_then condition body rest) s ≡ either c.is_true.result (block scope callee body) (otherwise scope callee rest) s =
+    if_known scope callee condition body rest s number c.in-Some.ensures ∙ ap (λ b. either b (block scope callee body) (otherwise scope callee rest) s) is in
+    subst (Does c.run_either.result c.run_either.new.state) (sym whole) c.run_either.ensures
 
 pub expressions::evaluate_all-evaluate_argument-requires : goal.expressions::evaluate_all-evaluate_argument-requires
 expressions::evaluate_all-evaluate_argument-requires t c = grind (the_lemmas, arith, common_steps)
@@ -93,14 +135,21 @@ expressions::evaluate_all-loop-argument-preserved t c =
       small = smaller_rest item rest (subst (λ given. arguments_size given ≤ arguments_size (arguments_of c.args.given.now)) next c.loop-argument.invariant.small);
     }
 
-pub expressions::evaluate-returns-in_ok-operate-in-Binary : goal.expressions::evaluate-returns-in_ok-operate-in-Binary
-expressions::evaluate-returns-in_ok-operate-in-Binary t c =
+pub expressions::evaluate-returns-in-Some : goal.expressions::evaluate-returns-in-Some
+expressions::evaluate-returns-in-Some t c =
+    let number = c.in-Some.number in
+    let fits : FitsSigned w64 number = search rules in
+    c.in-Some.ensures (calls_in c.args.frame.now)
+    ∙ ap (λ span. normal span c.args.state.now) (sym (c.exactly.ensures ∙ ap exactly (to_z-of_z w64 number fits)))
+
+pub expressions::evaluate_parts-returns-in_ok-operate-in-Binary : goal.expressions::evaluate_parts-returns-in_ok-operate-in-Binary
+expressions::evaluate_parts-returns-in_ok-operate-in-Binary t c =
     let arm = c.in-Binary in
     let scope = scope_in c.args.frame.now in
     let callee = calls_in c.args.frame.now in
     let s = c.args.state.now in
-    let middle = c.evaluate-in-Binary.new.state in
-    let last = c.evaluate-in-Binary-2.new.state in
+    let middle = c.evaluate_parts-in-Binary.new.state in
+    let last = c.evaluate_parts-in-Binary-2.new.state in
     let a = c.in_ok-a-in-Binary.a in
     let b = c.in_ok-b-in-Binary.b in
     let left = expression_of arm.left.value in
@@ -111,14 +160,14 @@ expressions::evaluate-returns-in_ok-operate-in-Binary t c =
     let typed = c.type_of-in-Binary.ensures ∙ ap (type_of scope) tree in
     binary_then scope callee arm.operator left right (expression_of c.args.e.now) s middle last _ a b (normal c.in_ok-operate-in-Binary.field-0 last) tree typed first second c.in_ok-operate-in-Binary.ensures
 
-pub expressions::evaluate-returns-in_err-operate-in-Binary : goal.expressions::evaluate-returns-in_err-operate-in-Binary
-expressions::evaluate-returns-in_err-operate-in-Binary t c =
+pub expressions::evaluate_parts-returns-in_err-operate-in-Binary : goal.expressions::evaluate_parts-returns-in_err-operate-in-Binary
+expressions::evaluate_parts-returns-in_err-operate-in-Binary t c =
     let arm = c.in-Binary in
     let scope = scope_in c.args.frame.now in
     let callee = calls_in c.args.frame.now in
     let s = c.args.state.now in
-    let middle = c.evaluate-in-Binary.new.state in
-    let last = c.evaluate-in-Binary-2.new.state in
+    let middle = c.evaluate_parts-in-Binary.new.state in
+    let last = c.evaluate_parts-in-Binary-2.new.state in
     let a = c.in_ok-a-in-Binary.a in
     let b = c.in_ok-b-in-Binary.b in
     let reason = c.in_err-operate-in-Binary.field-0.0 in
@@ -244,10 +293,10 @@ functions::run_function-returns t c =
     let s = c.args.state.now in
     let inside = c.exchange-before.new.self in
     let names = c.in_ok-names.names in
-    let known : names ≡ names_of program (function_of c.args.function.now) = c.in_ok-names.ensures in
+    let known : names ≡ names_of program (function_of c.args.function.now) = c.in_ok-names.ensures.names in
     let entered : inside ≡ record s { values = initial_values names c.args.spans.now } = c.exchange-before.ensures.exchanged ∙ ap (λ values. record s { values = values }) c.in_ok-values.ensures in
     let back : c.exchange.new.self ≡ record c.run_block-ran.new.state { values = s.values } = c.exchange.ensures.exchanged ∙ ap (λ values. record c.run_block-ran.new.state { values = values }) c.exchange-before.ensures.before in
-    left_function program (function_call program c.args.room) (function_of c.args.function.now) c.args.spans.now s inside c.run_block-ran.new.state c.exchange.new.self names c.run_block-ran.result c.finished.result known entered c.run_block-ran.ensures back c.finished.ensures
+    left_function program (function_call program c.args.room) (function_of c.args.function.now) c.args.spans.now s inside c.run_block-ran.new.state c.exchange.new.self names c.run_block-ran.result c.finished.result known entered c.run_block-ran.ensures back c.finished.ensures.gives
 
 pub functions::run_named-run_function-requires : goal.functions::run_named-run_function-requires
 functions::run_named-run_function-requires t c =
@@ -259,7 +308,7 @@ functions::run_named-run_function-requires t c =
     let small = found_smaller program test f found in
     let less = room_left c.args.frame.now.room left c.args.state.now c.enter_call.new.state c.in_ok-room.ensures in
     let falls = room_falls c.args.frame.now.room left (program_size program) (block_size f.body) less small in
-    (subst (λ t. left * program_size program + (block_size f.body + 1) < t) c.decreases falls, (c.args.frame.now.runnable, found_runs program test f found c.args.frame.now.runnable))
+    (subst (λ t. left * program_size program + (block_size f.body + 1) < t) c.decreases falls, (c.args.frame.now.runnable, (found_runs program test f found c.args.frame.now.runnable, found_is_among program test f found)))
 
 pub functions::run_named-returns-in-Some : goal.functions::run_named-returns-in-Some
 functions::run_named-returns-in-Some t c =

@@ -8,13 +8,16 @@ use Rattle.meaning_steps.specs.Runnable.{AreRunnable}
 use Rattle.meaning_steps.specs.RunnableStatements.{EachRunnable, IsRunnableBlock, IsRunnableOtherwise}
 use Rattle.slack_meaning.specs.Actions.{give, ◌>>=◌}
 use Rattle.slack_meaning.specs.Expressions.{arguments, expression}
-use Rattle.slack_meaning.specs.Statements.{block, for_turns, otherwise, parallel_block, statement, values, while_loop, while_turns}
+use Rattle.slack_meaning.specs.Statements.{block, for_turns, otherwise, parallel_block, values, while_loop, while_turns}
 use Rattle.meaning_frames.proofs.Sizes.{arguments_size, block_size, expression_size, expressions_size, handlers_size, otherwise_size, optional_size, program_size, statement_size}
 use Rattle.slack_runs.specs.Frames.{calls_in}
 use Rattle.slack_runs.proofs.+runs.Given as goal
 
 abbrev pub decreases-expressions::evaluate : goal.decreases-expressions::evaluate
-decreases-expressions::evaluate l = l.frame.now.room * program_size (program_of l.frame.now.scope.functions) + expression_size (expression_of l.e.now)
+decreases-expressions::evaluate l = l.frame.now.room * program_size (program_of l.frame.now.scope.functions) + (expression_size (expression_of l.e.now) + 1)
+
+abbrev pub decreases-expressions::evaluate_parts : goal.decreases-expressions::evaluate_parts
+decreases-expressions::evaluate_parts l = l.frame.now.room * program_size (program_of l.frame.now.scope.functions) + expression_size (expression_of l.e.now)
 
 abbrev pub decreases-expressions::evaluate_all : goal.decreases-expressions::evaluate_all
 decreases-expressions::evaluate_all l = l.frame.now.room * program_size (program_of l.frame.now.scope.functions) + (arguments_size (arguments_of l.given.now) + 2)
@@ -35,16 +38,34 @@ abbrev pub decreases-blocks::run_block : goal.decreases-blocks::run_block
 decreases-blocks::run_block l = l.frame.now.room * program_size (program_of l.frame.now.scope.functions) + block_size (block_of l.body.now)
 
 abbrev pub decreases-blocks::run_statement : goal.decreases-blocks::run_statement
-decreases-blocks::run_statement l = l.frame.now.room * program_size (program_of l.frame.now.scope.functions) + (statement_size (statement_of l.form.now) + 4)
+decreases-blocks::run_statement l = l.frame.now.room * program_size (program_of l.frame.now.scope.functions) + (statement_size (statement_of l.form.now) + 5)
 
-abbrev pub decreases-blocks::run_branch : goal.decreases-blocks::run_branch
-decreases-blocks::run_branch l = l.frame.now.room * program_size (program_of l.frame.now.scope.functions) + (otherwise_size (elif_of l.branch.now no_else) + 1)
+abbrev pub decreases-blocks::run_parts : goal.decreases-blocks::run_parts
+decreases-blocks::run_parts l = l.frame.now.room * program_size (program_of l.frame.now.scope.functions) + (statement_size (statement_of l.form.now) + 4)
 
-abbrev pub decreases-blocks::run_else : goal.decreases-blocks::run_else
-decreases-blocks::run_else l = l.frame.now.room * program_size (program_of l.frame.now.scope.functions) + (otherwise_size (else_of (option_map block_of l.last.now)) + 1)
+abbrev pub decreases-branches::run_if : goal.decreases-branches::run_if
+decreases-branches::run_if l = l.frame.now.room * program_size (program_of l.frame.now.scope.functions) + (expression_size (expression_of l.condition.now) + (block_size (block_of l.body.now) + (otherwise_size (branches_of l.branches.now l.last.now) + 5)))
+
+abbrev pub decreases-branches::decide : goal.decreases-branches::decide
+decreases-branches::decide l = l.frame.now.room * program_size (program_of l.frame.now.scope.functions) + (expression_size (expression_of l.condition.now) + (block_size (block_of l.body.now) + (otherwise_size (branches_of l.branches.now l.last.now) + 4)))
+
+abbrev pub decreases-branches::run_either : goal.decreases-branches::run_either
+decreases-branches::run_either l = l.frame.now.room * program_size (program_of l.frame.now.scope.functions) + (block_size (block_of l.body.now) + (otherwise_size (branches_of l.branches.now l.last.now) + 3))
+
+abbrev pub decreases-branches::run_branches : goal.decreases-branches::run_branches
+decreases-branches::run_branches l = l.frame.now.room * program_size (program_of l.frame.now.scope.functions) + (otherwise_size (branches_of l.branches.now l.last.now) + 2)
+
+abbrev pub decreases-branches::run_branch : goal.decreases-branches::run_branch
+decreases-branches::run_branch l = l.frame.now.room * program_size (program_of l.frame.now.scope.functions) + (otherwise_size (elif_of l.branch.now no_else) + 1)
+
+abbrev pub decreases-branches::run_else : goal.decreases-branches::run_else
+decreases-branches::run_else l = l.frame.now.room * program_size (program_of l.frame.now.scope.functions) + (otherwise_size (else_of (option_map block_of l.last.now)) + 1)
+
+abbrev pub decreases-simple::evaluate_alone : goal.decreases-simple::evaluate_alone
+decreases-simple::evaluate_alone l = l.frame.now.room * program_size (program_of l.frame.now.scope.functions) + (expression_size (expression_of l.e.now) + 2)
 
 abbrev pub decreases-simple::give_back : goal.decreases-simple::give_back
-decreases-simple::give_back l = l.frame.now.room * program_size (program_of l.frame.now.scope.functions) + (optional_size (option_map expression_of l.value.now) + 1)
+decreases-simple::give_back l = l.frame.now.room * program_size (program_of l.frame.now.scope.functions) + (optional_size (option_map expression_of l.value.now) + 2)
 
 abbrev pub decreases-simple::assign : goal.decreases-simple::assign
 decreases-simple::assign l = l.frame.now.room * program_size (program_of l.frame.now.scope.functions) + (statement_size (assign_to l.target.now (expression_of l.e.now)) + 1)
@@ -53,13 +74,13 @@ abbrev pub decreases-simple::augment : goal.decreases-simple::augment
 decreases-simple::augment l = l.frame.now.room * program_size (program_of l.frame.now.scope.functions) + (statement_size (augment_of l.target.now l.operator (expression_of l.e.now)) + 2)
 
 abbrev pub decreases-simple::augment_name : goal.decreases-simple::augment_name
-decreases-simple::augment_name l = l.frame.now.room * program_size (program_of l.frame.now.scope.functions) + (expression_size (expression_of l.e.now) + 1)
+decreases-simple::augment_name l = l.frame.now.room * program_size (program_of l.frame.now.scope.functions) + (expression_size (expression_of l.e.now) + 2)
 
 abbrev pub decreases-simple::augment_element : goal.decreases-simple::augment_element
-decreases-simple::augment_element l = l.frame.now.room * program_size (program_of l.frame.now.scope.functions) + (expression_size (expression_of l.index.now) + (expression_size (expression_of l.e.now) + 1))
+decreases-simple::augment_element l = l.frame.now.room * program_size (program_of l.frame.now.scope.functions) + (expression_size (expression_of l.index.now) + (expression_size (expression_of l.e.now) + 2))
 
 abbrev pub decreases-simple::assign_repeated : goal.decreases-simple::assign_repeated
-decreases-simple::assign_repeated l = l.frame.now.room * program_size (program_of l.frame.now.scope.functions) + (expression_size (expression_of l.e.now) + 1)
+decreases-simple::assign_repeated l = l.frame.now.room * program_size (program_of l.frame.now.scope.functions) + (expression_size (expression_of l.e.now) + 2)
 
 abbrev pub decreases-simple::assign_list : goal.decreases-simple::assign_list
 decreases-simple::assign_list l = l.frame.now.room * program_size (program_of l.frame.now.scope.functions) + (expressions_size (map expression_of l.elements.now) + 2)
@@ -72,6 +93,12 @@ decreases-loops::run_while l = l.frame.now.room * program_size (program_of l.fra
 
 abbrev pub decreases-loops::run_turn : goal.decreases-loops::run_turn
 decreases-loops::run_turn l = l.frame.now.room * program_size (program_of l.frame.now.scope.functions) + (block_size (block_of l.body.now) + 1)
+
+abbrev pub decreases-loops::run_for_to : goal.decreases-loops::run_for_to
+decreases-loops::run_for_to l = l.frame.now.room * program_size (program_of l.frame.now.scope.functions) + (expression_size (expression_of l.to.now) + (block_size (block_of l.body.now) + 4))
+
+abbrev pub decreases-loops::run_for_from_to : goal.decreases-loops::run_for_from_to
+decreases-loops::run_for_from_to l = l.frame.now.room * program_size (program_of l.frame.now.scope.functions) + (expression_size (expression_of l.from.now) + (expression_size (expression_of l.to.now) + (block_size (block_of l.body.now) + 4)))
 
 abbrev pub decreases-loops::run_for : goal.decreases-loops::run_for
 decreases-loops::run_for l = l.frame.now.room * program_size (program_of l.frame.now.scope.functions) + (block_size (block_of l.body.now) + 3)
@@ -87,6 +114,9 @@ decreases-timed::run_parallel l = l.frame.now.room * program_size (program_of l.
 
 abbrev pub decreases-timed::run_recorded : goal.decreases-timed::run_recorded
 decreases-timed::run_recorded l = l.frame.now.room * program_size (program_of l.frame.now.scope.functions) + (block_size (block_of l.body.now) + 1)
+
+abbrev pub decreases-timed::run_try : goal.decreases-timed::run_try
+decreases-timed::run_try l = l.frame.now.room * program_size (program_of l.frame.now.scope.functions) + (block_size (block_of l.body.now) + (handlers_size (handlers_of l.handlers.now) + 2))
 
 abbrev pub decreases-timed::handle : goal.decreases-timed::handle
 decreases-timed::handle l = l.frame.now.room * program_size (program_of l.frame.now.scope.functions) + (handlers_size (handlers_of l.handlers.now) + 1)
@@ -115,12 +145,12 @@ invariant-blocks::run_block-loop-statement l =
       small : block_size (lines_of (drop l.statement-index l.statement-items)) ≤ block_size (block_of l.fn.body);
     }
 
-abbrev pub invariant-blocks::run_statement-loop-branch : goal.invariant-blocks::run_statement-loop-branch
-invariant-blocks::run_statement-loop-branch l =
+abbrev pub invariant-branches::run_branches-loop-branch : goal.invariant-branches::run_branches-loop-branch
+invariant-branches::run_branches-loop-branch l =
     record {
-      left : statement (scope_in l.fn.frame) (calls_in l.fn.frame) (statement_of l.fn.form) l.fn.state ≡ otherwise (scope_in l.fn.frame) (calls_in l.fn.frame) (branches_of (drop l.branch-index l.branch-items) l.last) l.state;
-      runnable : IsRunnableOtherwise (branches_of (drop l.branch-index l.branch-items) l.last);
-      small : otherwise_size (branches_of (drop l.branch-index l.branch-items) l.last) + 8 ≤ statement_size (statement_of l.fn.form);
+      left : otherwise (scope_in l.fn.frame) (calls_in l.fn.frame) (branches_of l.fn.branches l.fn.last) l.initial.state ≡ otherwise (scope_in l.fn.frame) (calls_in l.fn.frame) (branches_of (drop l.branch-index l.fn.branches) l.fn.last) l.state;
+      runnable : IsRunnableOtherwise (branches_of (drop l.branch-index l.fn.branches) l.fn.last);
+      small : otherwise_size (branches_of (drop l.branch-index l.fn.branches) l.fn.last) ≤ otherwise_size (branches_of l.fn.branches l.fn.last);
     }
 
 abbrev pub invariant-timed::run_parallel-loop-statement : goal.invariant-timed::run_parallel-loop-statement

@@ -2,6 +2,8 @@ use Rattle.std.proofs.Common.{◌≡◌, ap, sym, subst, ◌∙◌}
 use Rattle.std.specs.Prelude.{IfOk, unwrap_or}
 use Rattle.std.proofs.lemmas.Result.{IfOk-weaker}
 use Rattle.kern_syntax.specs.TreeOf.{tree_of}
+use Rattle.kern_types.specs.Programs.{IsTyped}
+use Rattle.kern_names.proofs.Members.{first_is_among}
 use Rattle.meaning_frames.proofs.First.{first_runs}
 use Rattle.meaning_runnable.proofs.Functions.{typed_can_run}
 use Rattle.meaning_steps.specs.RunnableStatements.{AreRunnableFunctions}
@@ -12,7 +14,11 @@ use Rattle.slack_check.specs.Mains.{place_of_main, verdict_of_main}
 use Rattle.slack_check.proofs.whole.slack.Goals as goal
 
 pub invariant_of-program : goal.invariant_of-program
-invariant_of-program c = record { numbered = c.in_ok-numbers.ensures }
+invariant_of-program c =
+    record {
+      numbered = c.in_ok-numbers.ensures;
+      typed = subst (λ fs. IsTyped (tree_of fs)) (sym c.functions-functions.ensures) c.program.ensures.typed;
+    }
 
 pub run_first-ran-requires-clause-functions : goal.run_first-ran-requires-clause-functions
 run_first-ran-requires-clause-functions c =
@@ -21,6 +27,10 @@ run_first-ran-requires-clause-functions c =
 pub run_first-ran-requires-clause-body : goal.run_first-ran-requires-clause-body
 run_first-ran-requires-clause-body c =
     first_runs (tree_of c.functions-functions.result.now) c.unwrap_or-main.result c.function_at-first.result c.function_at-first.ensures (run_first-ran-requires-clause-functions c)
+
+pub run_first-ran-requires-clause-own : goal.run_first-ran-requires-clause-own
+run_first-ran-requires-clause-own c =
+    first_is_among (tree_of c.functions-functions.result.now) c.unwrap_or-main.result c.function_at-first.result c.function_at-first.ensures
 
 pub returns : goal.returns
 returns c =
