@@ -3,10 +3,9 @@
 
     python3 docs/definitions.py [--sums] [--beyond NAME] [NAME..]
 
-Without NAME it begins at all definitions that the clause `due` of `sim_top` cites. NAME is another top call with a clause
-`due` (`lab_top`, `trace_top`), or a definition, as NAME or CRATE.NAME. With --sums it prints the last line alone: how many
-definitions there are, of how many lines, in how many files. With --beyond it leaves out all that another clause or definition
-rests on.
+Without NAME it begins at all definitions that the clause of `sim_top` cites. NAME is another top call (`lab_top`,
+`trace_top`), or a definition, as NAME or CRATE.NAME. With --sums it prints the last line alone: how many definitions there
+are, of how many lines, in how many files. With --beyond it leaves out all that another clause or definition rests on.
 
 Definitions are followed through the files of specs/, those too that a crate passes on from one below, in the order in which
 a reader meets them from the top, and added up by file. A word counts as citing each definition that the file could mean by
@@ -137,15 +136,15 @@ class House:
             else:
                 return crate, module, name
 
-    def cited_by_due(self, call):
-        """The definitions that the clause `due` of a top call cites, or None where no call of this name has one."""
-        for path in sorted(ROOT.glob("crates/*_program/src/*.rt")):
+    def cited_by_call(self, call):
+        """The definitions that the clause of a top call cites, or None where no call has this name."""
+        for path in sorted(ROOT.glob("crates/*_program/src/top.rt")):
             text = path.read_text()
             begin = re.search(rf"^pub fn {re.escape(call)}\b", text, re.M)
-            due = begin and re.search(r"ensures due \{(.*?)\}\n    (?://|ensures|\{)", text[begin.start() :], re.S)
-            if due:
+            clause = begin and re.search(r"ensures \{(.*?)\}\n\{", text[begin.start() :], re.S)
+            if clause:
                 head = "\n".join(line for line in text.splitlines() if line.startswith("ghost use"))
-                return [(crate, *rest) for crate, *rest in File(head).cited(due.group(1)) if crate != "std"]
+                return [(crate, *rest) for crate, *rest in File(head).cited(clause.group(1)) if crate != "std"]
         return None
 
     def named(self, name):
@@ -175,10 +174,10 @@ class House:
 
 def starts_of(house, names):
     for name in names:
-        found = house.cited_by_due(name) or house.named(name)
+        found = house.cited_by_call(name) or house.named(name)
         if not found:
             sys.exit(f"no definition and no top call has the name {name}")
-        if len({crate for crate, *_ in found}) > 1 and not house.cited_by_due(name):
+        if len({crate for crate, *_ in found}) > 1 and not house.cited_by_call(name):
             sys.exit(f"say which one: {', '.join(f'{crate}.{name}' for crate, *_ in found)}")
         yield from found
 

@@ -3,4 +3,4 @@ mod Answering
 mod Cores
 mod Drained
 mod Finishing
-mod Known
+mod Words

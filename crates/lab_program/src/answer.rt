@@ -1,7 +1,8 @@
 // What the program says of the bytes of its source.
 
 ghost use Rattle.std.specs.Prelude.{IfOk};
-ghost use Rattle.lab_program.specs.Answers.{IsAnswerTo};
+ghost use Rattle.lab_program.specs.Answers.{report_of_session};
+ghost use Rattle.top_calls.specs.Sayings.{IsAnswerTo};
 
 use crate::laboratory::run_laboratory;
 use crate::refusal::{field_refusal, json_refusal};
@@ -11,15 +12,7 @@ use stage_work::Gate;
 use std::alloc::{AllocError, Global};
 use std::sync::Wait;
 use std::thread::Threads;
-
-/// What is said of some bytes.
-#[derive(Drop)]
-pub enum Answer {
-    /// The report of the session that they are.
-    Due(Vec<u8>),
-    /// The line that says why they are none.
-    Refused(Vec<u8>),
-}
+use top_calls::{Answer, Finish};
 
 /// Reads bytes as a session and runs it, or says why they are none.
 pub fn answer_to<R: Threads + Wait + Sync, G: Gate + Sync>(
@@ -28,11 +21,14 @@ pub fn answer_to<R: Threads + Wait + Sync, G: Gate + Sync>(
     text: &[u8],
     gate: &G,
 ) -> Result<Answer, AllocError>
-    ensures { IfOk result (λ answer. IsAnswerTo text.now answer) }
+    ensures { IfOk result (λ answer. IsAnswerTo report_of_session text.now answer) }
 {
     no_session_has_a_fault();
     match read_session(alloc, text) {
-        Ok(session) => Ok(Answer::Due(run_laboratory(rt, alloc, &session, gate)?)),
+        Ok(session) => Ok(Answer::Due {
+            bytes: run_laboratory(rt, alloc, &session, gate)?,
+            finish: Finish::Whole,
+        }),
         Err(SessionFault::Json) => Ok(Answer::Refused(json_refusal(alloc)?)),
         Err(SessionFault::Field { path, kind }) => {
             Ok(Answer::Refused(field_refusal(alloc, &path, kind)?))

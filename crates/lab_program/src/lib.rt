@@ -10,4 +10,5 @@ mod top;
 
 pub use laboratory::run_laboratory;
 pub use opening::open_cores;
-pub use top::{lab_top, without_memory};
+pub use top::lab_top;
+pub use top_calls::without_memory;

@@ -6,31 +6,30 @@ use Rattle.kern_syntax.specs.Print.{program_text}
 use Rattle.core_isa.specs.declared.code.Code.{Code}
 use Rattle.core_image.specs.Spelling.{image_of}
 use Rattle.code_law.specs.DoesAs.{DoesAs}
-use Rattle.sim_words.specs.declared.asked.Asked.TheVariants.{Sim, Generated, Exec, Dump}
 use Rattle.sim_words.specs.declared.asked.Options.{Options}
-use Rattle.sim_program.specs.declared.answer.Answer.{Answer}
-use Rattle.sim_program.specs.declared.answer.Answer.TheVariants as A
+use Rattle.top_calls.specs.declared.answer.Answer.{Answer}
+use Rattle.top_calls.specs.declared.answer.Answer.TheVariants as A
+use Rattle.top_calls.specs.Sayings.{IsAnswerTo}
+use Rattle.top_calls.specs.Statuses.{status_of}
 use Rattle.sim_program.specs.declared.report.Form.{Form}
-use Rattle.sim_program.specs.declared.report.Form.TheVariants.{Report, Summary}
-use Rattle.sim_program.specs.declared.report.Form.TheVariants as F
+use Rattle.sim_program.specs.declared.report.Form.TheVariants.{Report}
 use Rattle.sim_program.specs.declared.run.Run.{Run}
 use Rattle.kern_accepted.specs.Texts.{IsKernelText}
 use Rattle.sim_program.specs.Texts.{IsTextRefused}
 use Rattle.sim_program.specs.Images.{IsAcceptedImage, IsImageRefused}
-use Rattle.sim_program.specs.Reports.{status_of}
-use Rattle.sim_program.specs.Answers.{CompilesText, PrintsText}
+use Rattle.sim_program.specs.Answers.{CompilesText, PrintsText, image_run_of, run_of}
 use Rattle.sim_program.specs.Slack.{TellsSlack}
 use Rattle.slack_check.specs.Lines.{slack_line}
 use Rattle.slack_check.specs.Mains.{MainNeverUnderflows, verdict_of_main}
 use Rattle.slack_meaning.specs.declared.verdict.Verdict.{Verdict}
 use Rattle.slack_meaning.specs.declared.verdict.Verdict.TheVariants.{Yes}
-use Rattle.sim_program.specs.Readings.{IsAnswerTo, IsCodeRun, IsMainRun, IsRunAnswer, TellsOf}
+use Rattle.sim_program.specs.Readings.{IsCodeRun, IsMainRun, TellsOf}
 use Rattle.sim_program.proofs.Refused.{text-not-refused}
 
 -- ---- runs
 
 run-answer : (options : Options) (form : Form) (text : Bytes) (program : ProgramTree) (code : Code) (run : Run) (size : ℕ) (answer : Answer) → IsKernelText text program → DoesAs program code → size ≡ length (image_of code)
-    → IsMainRun program code options run.core run.outcome run.steps → TellsOf form run options.budget size answer → IsRunAnswer options form text answer
+    → IsMainRun program code options run.core run.outcome run.steps → TellsOf form run options.budget size answer → IsAnswerTo (run_of options form) text answer
 run-answer options form text program code run size (A.Due bytes finish) kernel does size_is r tells = (
   record {
     core = run.core;
@@ -55,12 +54,12 @@ run-answer options form text program code run size (A.Refused told) kernel does 
 run-answer options form text program code run size (A.Bad told) kernel does size_is r tells = absurd tells
 
 pub run-answers : (options : Options) (form : Form) (text : Bytes) (program : ProgramTree) (code : Code) (run : Run) (size : ℕ) {E : Type 0} (result : Result Answer E) → IsKernelText text program → DoesAs program code → size ≡ length (image_of code)
-    → IsMainRun program code options run.core run.outcome run.steps → IfOk result (λ answer. TellsOf form run options.budget size answer) → IfOk result (λ answer. IsRunAnswer options form text answer)
+    → IsMainRun program code options run.core run.outcome run.steps → IfOk result (λ answer. TellsOf form run options.budget size answer) → IfOk result (λ answer. IsAnswerTo (run_of options form) text answer)
 run-answers options form text program code run size (Ok answer) kernel does size_is r tells = run-answer options form text program code run size answer kernel does size_is r tells
 run-answers options form text program code run size (Err e) kernel does size_is r tells = tt
 
 code-answer : (options : Options) (dma : Bool) (bytes : List ℕ) (code : Code) (run : Run) (size : ℕ) (answer : Answer) → IsAcceptedImage bytes code → ((told : List ℕ) → ¬ IsImageRefused bytes told) → size ≡ length bytes
-    → IsCodeRun code options run.core run.outcome run.steps → TellsOf (Report dma) run options.budget size answer → IsAnswerTo (Exec options dma) bytes answer
+    → IsCodeRun code options run.core run.outcome run.steps → TellsOf (Report dma) run options.budget size answer → IsAnswerTo (image_run_of options (Report dma)) bytes answer
 code-answer options dma bytes code run size (A.Due written finish) accepted not_refused size_is r tells = (
   record {
     core = run.core;
@@ -83,14 +82,13 @@ code-answer options dma bytes code run size (A.Due written finish) accepted not_
     text = tells.0;
     status_is = ap status_of tells.1;
   },
-  λ told refused. refused,
-  λ told bad. not_refused told bad,
+  not_refused,
 )
 code-answer options dma bytes code run size (A.Refused told) accepted not_refused size_is r tells = absurd tells
 code-answer options dma bytes code run size (A.Bad told) accepted not_refused size_is r tells = absurd tells
 
 pub code-answers : (options : Options) (dma : Bool) (bytes : List ℕ) (code : Code) (run : Run) (size : ℕ) {E : Type 0} (result : Result Answer E) → IsAcceptedImage bytes code → ((told : List ℕ) → ¬ IsImageRefused bytes told) → size ≡ length bytes
-    → IsCodeRun code options run.core run.outcome run.steps → IfOk result (λ answer. TellsOf (Report dma) run options.budget size answer) → IfOk result (λ answer. IsAnswerTo (Exec options dma) bytes answer)
+    → IsCodeRun code options run.core run.outcome run.steps → IfOk result (λ answer. TellsOf (Report dma) run options.budget size answer) → IfOk result (λ answer. IsAnswerTo (image_run_of options (Report dma)) bytes answer)
 code-answers options dma bytes code run size (Ok answer) accepted not_refused size_is r tells = code-answer options dma bytes code run size answer accepted not_refused size_is r tells
 code-answers options dma bytes code run size (Err e) accepted not_refused size_is r tells = tt
 
@@ -121,32 +119,3 @@ told-verdict cost depth text written program verdict kernel is promise line = (
   },
   λ told refused. text-not-refused text told program kernel refused,
 )
-
--- ---- the commands that run a kernel
-
-reported : (options : Options) (dma : Bool) (text : Bytes) (answer : Answer) → IsRunAnswer options (Report dma) text answer → IsAnswerTo (Sim options dma) text answer
-reported options dma text (A.Due bytes finish) h = (h.0, λ told refused. h.1 told refused, λ told bad. bad)
-reported options dma text (A.Refused told) h = (h.0, λ taken. h.1 taken.0 taken.1)
-reported options dma text (A.Bad told) h = absurd h
-
-pub reports : (options : Options) (dma : Bool) (text : Bytes) {E : Type 0} (result : Result Answer E) → IfOk result (λ answer. IsRunAnswer options (Report dma) text answer) → IfOk result (λ answer. IsAnswerTo (Sim options dma) text answer)
-reports options dma text (Ok answer) h = reported options dma text answer h
-reports options dma text (Err e) h = tt
-
-summed : (number : ℕ) (options : Options) (text : Bytes) (answer : Answer) → IsRunAnswer options Summary text answer → IsAnswerTo (Generated number options) text answer
-summed number options text (A.Due bytes finish) h = (h.0, λ told refused. h.1 told refused, λ told bad. bad)
-summed number options text (A.Refused told) h = (h.0, λ taken. h.1 taken.0 taken.1)
-summed number options text (A.Bad told) h = absurd h
-
-pub sums : (number : ℕ) (options : Options) (text : Bytes) {E : Type 0} (result : Result Answer E) → IfOk result (λ answer. IsRunAnswer options Summary text answer) → IfOk result (λ answer. IsAnswerTo (Generated number options) text answer)
-sums number options text (Ok answer) h = summed number options text answer h
-sums number options text (Err e) h = tt
-
-dumped : (options : Options) (text : Bytes) (answer : Answer) → IsRunAnswer options F.Bytes text answer → IsAnswerTo (Dump options) text answer
-dumped options text (A.Due bytes finish) h = (h.0, λ told refused. h.1 told refused, λ told bad. bad)
-dumped options text (A.Refused told) h = (h.0, λ taken. h.1 taken.0 taken.1)
-dumped options text (A.Bad told) h = absurd h
-
-pub dumps : (options : Options) (text : Bytes) {E : Type 0} (result : Result Answer E) → IfOk result (λ answer. IsRunAnswer options F.Bytes text answer) → IfOk result (λ answer. IsAnswerTo (Dump options) text answer)
-dumps options text (Ok answer) h = dumped options text answer h
-dumps options text (Err e) h = tt

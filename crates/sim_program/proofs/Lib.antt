@@ -5,4 +5,3 @@ mod Few
 mod Sending
 mod Waves
 mod Answering
-mod Known

@@ -1,6 +1,6 @@
 -- A run's core puts its events out before the farthest horizon, and what is told of a link over which they are sent.
 use Rattle.std.proofs.Common.{◌≡◌, ◌≤◌, ◌^◌, ℕ, true, false, Bool, List, [], ◌∷◌, length, map, refl, ap, arith, cond}
-use Rattle.std.specs.Prelude.{nat_le, filter, Ok, Err, Result, IfOk}
+use Rattle.std.specs.Prelude.{nat_le, filter}
 use Rattle.std.specs.List.{list_all}
 use Rattle.std.proofs.lemmas.Bool.Decides.{nat_tests}
 use Rattle.rtio_types.specs.declared.event.Event.{Event}
@@ -13,18 +13,16 @@ use Rattle.core_isa.specs.declared.code.Code.{Code}
 use Rattle.core_image.specs.Spelling.{image_of}
 use Rattle.code_law.specs.DoesAs.{DoesAs}
 use Rattle.sat_rounds.specs.declared.letters.Letter.{Letter}
-use Rattle.sim_words.specs.declared.asked.Asked.TheVariants.{Sat}
 use Rattle.sim_words.specs.declared.asked.Options.{Options}
-use Rattle.sim_program.specs.declared.answer.Answer.{Answer}
-use Rattle.sim_program.specs.declared.answer.Answer.TheVariants as A
-use Rattle.sim_program.specs.declared.finish.Finish.{Finish}
+use Rattle.top_calls.specs.declared.finish.Finish.{Finish}
+use Rattle.top_calls.specs.Statuses.{status_of}
 use Rattle.sim_program.specs.declared.run.Run.{Run}
 use Rattle.sim_report.specs.Pending.{pends}
 use Rattle.sim_program.specs.Links.{IsSentAs, TellsLink}
-use Rattle.sim_program.specs.Reports.{finish_of, status_of}
+use Rattle.sim_program.specs.Reports.{finish_of}
 use Rattle.kern_accepted.specs.Texts.{IsKernelText}
 use Rattle.sim_program.specs.Texts.{IsTextRefused}
-use Rattle.sim_program.specs.Readings.{IsAnswerTo, IsLinkAnswer, IsMainRun}
+use Rattle.sim_program.specs.Readings.{IsMainRun}
 use Rattle.sim_program.proofs.Refused.{text-not-refused}
 
 -- what stands up to a cycle is up to each later one
@@ -68,13 +66,3 @@ link-answer options word text program code run written finish kernel does r sent
   },
   λ told refused. text-not-refused text told program kernel refused,
 )
-
-linked : (options : Options) (word : List Letter) (text : Bytes) (answer : Answer) → IsLinkAnswer options word text answer → IsAnswerTo (Sat options word) text answer
-linked options word text (A.Due bytes finish) h = (h.0, λ told refused. h.1 told refused, λ told bad. bad)
-linked options word text (A.Refused told) h = (h.0, λ taken. h.1 taken.0 taken.1)
-linked options word text (A.Bad told) h = absurd h
-
--- the command's answer
-pub links : (options : Options) (word : List Letter) (text : Bytes) {E : Type 0} (result : Result Answer E) → IfOk result (λ answer. IsLinkAnswer options word text answer) → IfOk result (λ answer. IsAnswerTo (Sat options word) text answer)
-links options word text (Ok answer) h = linked options word text answer h
-links options word text (Err e) h = tt

@@ -9,7 +9,8 @@ use Rattle.sat_rounds.specs.Rounds.{Settles}
 use Rattle.sat_rounds.specs.Texts.{link_text}
 use Rattle.sim_report.specs.Pending.{pends}
 use Rattle.sim_words.specs.declared.asked.Options.{Options}
-use Rattle.sim_program.specs.Reports.{finish_of, status_of}
+use Rattle.top_calls.specs.Statuses.{status_of}
+use Rattle.sim_program.specs.Reports.{finish_of}
 use Rattle.sim_program.specs.Runs.{RunsKernel}
 
 -- the bytes are the lines of a link to so many lanes of such a depth, over which the events that a core put out were

@@ -1,8 +1,5 @@
 -- What the program's parts make of its bytes.
-use Rattle.std.specs.Prelude.{◌≡◌, ℕ, List, None, Option, Result, Vec, MatchResult}
-use Rattle.std.specs.declared.alloc.Global.{Global}
-use Rattle.lab_io.specs.declared.source.ReadEnd.{ReadEnd}
-use Rattle.lab_io.specs.Reading.{ReadsToEnd}
+use Rattle.std.specs.Prelude.{◌≡◌, ℕ, List, None}
 use Rattle.rtio_types.specs.declared.outcome.Outcome.{Outcome}
 use Rattle.rtio_types.specs.declared.request.Reply.{Reply}
 use Rattle.rtio_core.specs.Core.{CoreState, new_core}
@@ -11,18 +8,15 @@ use Rattle.core_session.specs.Lockstep.{GrowsAtTop}
 use Rattle.core_session.specs.Scripts.{IsScriptOf, Next}
 use Rattle.core_session.specs.Sessions.{RunsSession, beginning_of}
 use Rattle.core_session.specs.Timed.{IsTimed}
-use Rattle.kern_syntax.specs.Tree.{Bytes, ProgramTree}
-use Rattle.kern_accepted.specs.Texts.{IsNoKernelText}
+use Rattle.kern_syntax.specs.Tree.{ProgramTree}
 use Rattle.core_isa.specs.declared.code.Code.{Code}
 use Rattle.core_isa.specs.Marks.{Marked}
 use Rattle.core_image.specs.Accepted.{MainTakesNothing}
-use Rattle.sim_words.specs.declared.asked.Asked.{Asked}
 use Rattle.sim_words.specs.declared.asked.Options.{Options}
-use Rattle.sim_program.specs.declared.answer.Answer.{Answer}
-use Rattle.sim_program.specs.declared.answer.Answer.TheVariants as answer
+use Rattle.top_calls.specs.declared.answer.Answer.{Answer}
+use Rattle.top_calls.specs.declared.answer.Answer.TheVariants as answer
 use Rattle.sim_program.specs.declared.image.Image.{Image}
 use Rattle.sim_program.specs.declared.image.Image.TheVariants as image
-use Rattle.sim_program.specs.Texts.{IsTextRefused}
 use Rattle.sim_program.specs.Images.{IsAcceptedImage, IsImageRefused}
 use Rattle.core_analyzer.specs.DumpFields.{first_wrong}
 use Rattle.core_analyzer.specs.Dumps.{Dumped, IsSpelling}
@@ -30,14 +24,10 @@ use Rattle.sim_program.specs.declared.wave.Wave.{Wave}
 use Rattle.sim_program.specs.declared.wave.Wave.TheVariants as wave
 use Rattle.sim_program.specs.Waves.{DrawsWave, IsDumpRefused, IsWaveDump}
 use Rattle.sim_program.specs.declared.report.Form.{Form}
-use Rattle.sat_rounds.specs.declared.letters.Letter.{Letter}
-use Rattle.sim_program.specs.Links.{TellsLink}
-use Rattle.sim_program.specs.Runs.{IsReported, RunsKernel, RunsMain, start_of}
+use Rattle.sim_program.specs.Runs.{IsReported, RunsMain, start_of}
 use Rattle.sim_program.specs.declared.run.Run.{Run}
 use Rattle.sim_report.specs.Pending.{pends}
-use Rattle.sim_program.specs.Reports.{Tells, finish_of, status_of, told_text}
-use Rattle.lab_io.specs.declared.source.ReadEnd.TheVariants.{Memory}
-use Rattle.sim_program.specs.Answers.{Has, IsBad, IsDue, IsRefused, IsTaken, Origin, Reads}
+use Rattle.sim_program.specs.Reports.{finish_of, told_text}
 
 -- bytes are the image of accepted code, or they are refused
 abbrev pub IsImageOf : (bytes : List ℕ) → Image → Type 0
@@ -78,35 +68,9 @@ pub record IsCodeRun (code : Code) (options : Options) (core : CoreState) (how :
   pub at_top : options.schedule ≡ Lockstep → GrowsAtTop (new_core options.config) left
   pub reported : IsReported left core
 
--- an answer tells of a run of the kernel that the text is, or refuses the text
-abbrev pub IsRunAnswer : Options → Form → Bytes → Answer → Type 0
-IsRunAnswer options form text (answer.Due bytes finish) =
-    Tells (RunsKernel options text) form options.budget bytes.items (status_of finish) × ((told : List ℕ) → ¬ IsTextRefused text told)
-IsRunAnswer options form text (answer.Refused told) = IsTextRefused text told.items × IsNoKernelText text
-IsRunAnswer options form text (answer.Bad told) = ⊥
-
--- an answer tells of a link over which the events of a run of the kernel are sent, or refuses the text
-abbrev pub IsLinkAnswer : Options → List Letter → Bytes → Answer → Type 0
-IsLinkAnswer options word text (answer.Due bytes finish) =
-    TellsLink options word text bytes.items (status_of finish) × ((told : List ℕ) → ¬ IsTextRefused text told)
-IsLinkAnswer options word text (answer.Refused told) = IsTextRefused text told.items × IsNoKernelText text
-IsLinkAnswer options word text (answer.Bad told) = ⊥
-
 -- an answer has the text of a run and its finish
 abbrev pub TellsOf : Form → Run → (budget size : ℕ) → Answer → Type 0
 TellsOf form run budget size (answer.Due bytes finish) =
     (bytes.items ≡ told_text form run.core budget size run.steps) × (finish ≡ finish_of run.outcome (pends run.core))
 TellsOf form run budget size (answer.Refused told) = ⊥
 TellsOf form run budget size (answer.Bad told) = ⊥
-
--- an answer is what a command owes bytes that it doesn't refuse, or the line that refuses bytes that it doesn't take
-abbrev pub IsAnswerTo : Asked → List ℕ → Answer → Type 0
-IsAnswerTo asked text (answer.Due bytes finish) =
-    IsDue asked text bytes.items (status_of finish) × ((told : List ℕ) → ¬ IsRefused asked text told) × ((told : List ℕ) → ¬ IsBad asked text told)
-IsAnswerTo asked text (answer.Refused told) = IsRefused asked text told.items × ¬ IsTaken asked text
-IsAnswerTo asked text (answer.Bad told) = IsBad asked text told.items × ¬ IsTaken asked text
-
--- a command got its bytes, or gave up: too many were taken, or no more than it may take
-abbrev pub GetsBytes : Origin → (old new : Option (List ℕ)) → Result (Vec ℕ Global) ReadEnd → Type 0
-GetsBytes (Reads most) old new result = ReadsToEnd most old new result
-GetsBytes (Has own) old new result = MatchResult result (λ bytes. bytes.items ≡ own) (λ end. end ≡ Memory)

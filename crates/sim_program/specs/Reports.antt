@@ -8,25 +8,20 @@ use Rattle.core_analyzer.specs.Dumps.{dump_bytes}
 use Rattle.sim_report.specs.Pending.{pends}
 use Rattle.sim_report.specs.Recordings.{dma_text}
 use Rattle.sim_report.specs.Report.{report_text, summary_text}
-use Rattle.sim_program.specs.declared.finish.Finish.{Finish}
-use Rattle.sim_program.specs.declared.finish.Finish.TheVariants.{Whole, Raised, Unfinished}
+use Rattle.top_calls.specs.declared.finish.Finish.{Finish}
+use Rattle.top_calls.specs.declared.finish.Finish.TheVariants.{Whole, Raised, Unfinished}
+use Rattle.top_calls.specs.Statuses.{status_of}
 use Rattle.sim_program.specs.declared.report.Form.{Form}
 use Rattle.sim_program.specs.declared.report.Form.TheVariants.{Report, Summary, Bytes}
 
--- how a run is finished, by its outcome and whether an event is still to be put out
+-- how a run is finished: unfinished where the units were used up or the last cycle was
+-- reached, or where the kernel returned and an event is still to be put out
 abbrev pub finish_of : Outcome → (pending : Bool) → Finish
 finish_of outcome.Returned true = Unfinished
 finish_of outcome.Returned false = Whole
 finish_of (outcome.Raised x) pending = Raised
 finish_of outcome.Budget pending = Unfinished
 finish_of outcome.Horizon pending = Unfinished
-
--- the status of a run: 7 where the units were used up or the last cycle was
--- reached, or where the kernel returned and an event is still to be put out
-abbrev pub status_of : Finish → ℕ
-status_of Whole = 0
-status_of Raised = 6
-status_of Unfinished = 7
 
 -- the lines of the kept recordings, where they are asked for
 abbrev pub dma_part : (dma : Bool) → CoreState → List ℕ

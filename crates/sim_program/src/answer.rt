@@ -5,9 +5,11 @@ ghost use Rattle.rtio_core.specs.Entries.{is_config_ok};
 ghost use Rattle.sim_report.specs.Ends.{HasEnded};
 ghost use Rattle.sim_words.specs.Asked.{IsAccepted};
 ghost use Rattle.kern_accepted.specs.Texts.{IsKernelText};
-ghost use Rattle.sim_program.specs.Readings.{IsAnswerTo, IsLinkAnswer, IsRunAnswer, TellsOf};
+ghost use Rattle.sim_program.specs.Answers.{command_of, link_of, run_of};
+ghost use Rattle.sim_program.specs.Readings.{TellsOf};
+ghost use Rattle.top_calls.specs.Sayings.{IsAnswerTo};
 
-use crate::finish::{Finish, finish_of};
+use crate::finish::finish_of;
 use crate::image::{Image, image_of};
 use crate::link::lines_of;
 use crate::refusal::line_of_end;
@@ -23,23 +25,13 @@ use sim_report::pends;
 use sim_words::{Asked, Options};
 use slack_check::{slack, slack_line};
 use std::alloc::{AllocError, Global};
-
-/// What the program says of the bytes of a command.
-#[derive(Drop)]
-pub enum Answer {
-    /// The bytes that the command owes, and how its run was finished.
-    Due { bytes: Vec<u8>, finish: Finish },
-    /// The line that says why a text is refused.
-    Refused(Vec<u8>),
-    /// The line that says why an image or a dump is refused.
-    Bad(Vec<u8>),
-}
+use top_calls::{Answer, Finish};
 
 /// Does with a command's bytes what it says, or says why they are refused.
 pub fn answer_to(alloc: Global, asked: Asked, text: Vec<u8>) -> Result<Answer, AllocError>
     requires accepted { IsAccepted asked }
     requires short { length text.items < 2 ^ 31 }
-    ensures { IfOk result (λ answer. IsAnswerTo asked text.items answer) }
+    ensures { IfOk result (λ answer. IsAnswerTo (command_of asked).duty text.items answer) }
 {
     match asked {
         Asked::Sim { options, dma } => answer_by_run(alloc, &text, options, Form::Report { dma }),
@@ -68,7 +60,7 @@ fn answer_by_run(
     requires config { IsTrue (is_config_ok options.config) }
     requires units { options.budget ≤ 1000000 }
     requires short { length text.now < 2 ^ 31 }
-    ensures { IfOk result (λ answer. IsRunAnswer options form text.now answer) }
+    ensures { IfOk result (λ answer. IsAnswerTo (run_of options form) text.now answer) }
 {
     match compile_text(alloc, text) {
         Ok(compiled) => answer_of_kernel(alloc, &compiled, options, form),
@@ -86,7 +78,7 @@ fn answer_of_kernel(
     requires config { IsTrue (is_config_ok options.config) }
     requires units { options.budget ≤ 1000000 }
     ensures { (text : List ℕ) → IsKernelText text (tree_of compiled.now.0)
-        → IfOk result (λ answer. IsRunAnswer options form text answer) }
+        → IfOk result (λ answer. IsAnswerTo (run_of options form) text answer) }
 {
     let budget = options.budget;
     let size = encode(alloc, compiled.code().code())?.len() as u64;
@@ -104,7 +96,7 @@ fn answer_by_link(
     requires config { IsTrue (is_config_ok options.config) }
     requires units { options.budget ≤ 1000000 }
     requires short { length text.now < 2 ^ 31 }
-    ensures { IfOk result (λ answer. IsLinkAnswer options word.now text.now answer) }
+    ensures { IfOk result (λ answer. IsAnswerTo (link_of options word.now) text.now answer) }
 {
     match compile_text(alloc, text) {
         Ok(compiled) => answer_of_link(alloc, &compiled, options, word),
@@ -122,7 +114,7 @@ fn answer_of_link(
     requires config { IsTrue (is_config_ok options.config) }
     requires units { options.budget ≤ 1000000 }
     ensures { (text : List ℕ) → IsKernelText text (tree_of compiled.now.0)
-        → IfOk result (λ answer. IsLinkAnswer options word.now text answer) }
+        → IfOk result (λ answer. IsAnswerTo (link_of options word.now) text answer) }
 {
     let lanes = options.config.lanes;
     let depth = options.config.depth;
@@ -139,7 +131,7 @@ fn answer_of_link(
 // Writes the canonical text of a kernel.
 fn answer_by_text(alloc: Global, text: &[u8]) -> Result<Answer, AllocError>
     requires { length text.now < 2 ^ 31 }
-    ensures { IfOk result (λ answer. IsAnswerTo Asked.Check text.now answer) }
+    ensures { IfOk result (λ answer. IsAnswerTo (command_of Asked.Check).duty text.now answer) }
 {
     match accept(alloc, text) {
         Ok(checked) => Ok(Answer::Due {
@@ -155,7 +147,7 @@ fn answer_by_slack(alloc: Global, text: &[u8], cost: u64, depth: u32) -> Result<
     requires cost { cost ≤ 1000000 }
     requires depth { (1 ≤ depth) × (depth ≤ 1024) }
     requires short { length text.now < 2 ^ 31 }
-    ensures { IfOk result (λ answer. IsAnswerTo (Asked.Slack cost depth) text.now answer) }
+    ensures { IfOk result (λ answer. IsAnswerTo (command_of (Asked.Slack cost depth)).duty text.now answer) }
 {
     match accept(alloc, text) {
         Ok(checked) => {
@@ -172,7 +164,7 @@ fn answer_by_slack(alloc: Global, text: &[u8], cost: u64, depth: u32) -> Result<
 // Writes the image of a kernel's code.
 fn answer_by_image(alloc: Global, text: &[u8]) -> Result<Answer, AllocError>
     requires { length text.now < 2 ^ 31 }
-    ensures { IfOk result (λ answer. IsAnswerTo Asked.Compile text.now answer) }
+    ensures { IfOk result (λ answer. IsAnswerTo (command_of Asked.Compile).duty text.now answer) }
 {
     match compile_text(alloc, text) {
         Ok(compiled) => Ok(Answer::Due {
@@ -192,7 +184,7 @@ fn answer_by_code(
 ) -> Result<Answer, AllocError>
     requires config { IsTrue (is_config_ok options.config) }
     requires units { options.budget ≤ 1000000 }
-    ensures { IfOk result (λ answer. IsAnswerTo (Asked.Exec options dma) bytes.now answer) }
+    ensures { IfOk result (λ answer. IsAnswerTo (command_of (Asked.Exec options dma)).duty bytes.now answer) }
 {
     match image_of(alloc, bytes)? {
         Image::Refused(line) => Ok(Answer::Bad(line)),
@@ -207,7 +199,7 @@ fn answer_by_code(
 
 // Writes the waveform of a dump.
 fn answer_by_dump(alloc: Global, bytes: &[u8]) -> Result<Answer, AllocError>
-    ensures { IfOk result (λ answer. IsAnswerTo Asked.Vcd bytes.now answer) }
+    ensures { IfOk result (λ answer. IsAnswerTo (command_of Asked.Vcd).duty bytes.now answer) }
 {
     match wave_of(alloc, bytes)? {
         Wave::Refused(line) => Ok(Answer::Bad(line)),

@@ -12,7 +12,8 @@ mod run;
 mod top;
 mod wave;
 
-pub use finish::{Finish, finish_of, status_of};
+pub use finish::finish_of;
 pub use refusal::line_of_end;
 pub use run::{Run, run_main};
-pub use top::{sim_top, without_memory};
+pub use top::sim_top;
+pub use top_calls::without_memory;

@@ -5,7 +5,7 @@ use Rattle.sim_program.proofs.answer.answer_by_code.Goals as goal
 pub returns-in-Refused : goal.returns-in-Refused
 returns-in-Refused c =
     let h = rw c.in-Refused.is at c.in_ok-line.ensures in
-    (h.0, λ taken. h.1 taken.0 taken.1)
+    (refl, h.0, λ taken. h.1 taken.0 taken.1)
 
 pub returns-in_ok-run-in-Accepted : goal.returns-in_ok-run-in-Accepted
 returns-in_ok-run-in-Accepted c =

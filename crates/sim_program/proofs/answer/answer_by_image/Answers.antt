@@ -9,9 +9,8 @@ pub returns-in_ok-encode-in-Ok : goal.returns-in_ok-encode-in-Ok
 returns-in_ok-encode-in-Ok c =
     let all = compiled c.args.text.now c.in_ok-encode-in-Ok.field-0.items (tree_of c.in-Ok.compiled.0) c.code.result.now c.in-Ok.ensures.kernel c.code.ensures.does
     (c.in_ok-encode-in-Ok.ensures ∙ ap image_of c.code-in-Ok.ensures.value) in
-    ((all.0, refl), all.1, λ told bad. bad)
+    ((all.0, refl), all.1)
 
 pub returns-in_ok-line_of_end-in-Err : goal.returns-in_ok-line_of_end-in-Err
 returns-in_ok-line_of_end-in-Err c =
-    let h = refused c.args.text.now c.in_ok-line_of_end-in-Err.field-0.items c.in-Err.end c.in-Err.ensures.end c.in_ok-line_of_end-in-Err.ensures in
-    (h.0, λ taken. h.1 taken.0 taken.1)
+    refused c.args.text.now c.in_ok-line_of_end-in-Err.field-0.items c.in-Err.end c.in-Err.ensures.end c.in_ok-line_of_end-in-Err.ensures

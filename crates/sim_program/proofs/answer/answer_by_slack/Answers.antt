@@ -8,9 +8,8 @@ pub returns-in_ok-slack_line-in-Ok : goal.returns-in_ok-slack_line-in-Ok
 returns-in_ok-slack_line-in-Ok c =
     let all = told-verdict c.args.cost c.args.depth c.args.text.now c.in_ok-slack_line-in-Ok.field-0.items (tree_of c.in-Ok.checked) c.in_ok-verdict-in-Ok.verdict
     c.in-Ok.ensures.kernel c.in_ok-verdict-in-Ok.ensures.verdict c.in_ok-verdict-in-Ok.ensures.yes c.in_ok-slack_line-in-Ok.ensures in
-    ((all.0, refl), all.1, λ told bad. bad)
+    ((all.0, refl), all.1)
 
 pub returns-in_ok-line_of_end-in-Err : goal.returns-in_ok-line_of_end-in-Err
 returns-in_ok-line_of_end-in-Err c =
-    let h = refused c.args.text.now c.in_ok-line_of_end-in-Err.field-0.items c.in-Err.end c.in-Err.ensures.end c.in_ok-line_of_end-in-Err.ensures in
-    (h.0, λ taken. h.1 taken.0 taken.1)
+    refused c.args.text.now c.in_ok-line_of_end-in-Err.field-0.items c.in-Err.end c.in-Err.ensures.end c.in_ok-line_of_end-in-Err.ensures

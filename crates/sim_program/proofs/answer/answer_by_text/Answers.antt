@@ -10,9 +10,8 @@ pub returns-in_ok-print-in-Ok : goal.returns-in_ok-print-in-Ok
 returns-in_ok-print-in-Ok c =
     let text = c.in_ok-print-in-Ok.ensures ∙ ap (λ (p : ProgramTree). program_text p) (ap tree_of c.program.ensures.kept) in
     let all = printed c.args.text.now c.in_ok-print-in-Ok.field-0.items (tree_of c.in-Ok.checked) c.in-Ok.ensures.kernel text in
-    ((all.0, refl), all.1, λ told bad. bad)
+    ((all.0, refl), all.1)
 
 pub returns-in_ok-line_of_end-in-Err : goal.returns-in_ok-line_of_end-in-Err
 returns-in_ok-line_of_end-in-Err c =
-    let h = refused c.args.text.now c.in_ok-line_of_end-in-Err.field-0.items c.in-Err.end c.in-Err.ensures.end c.in_ok-line_of_end-in-Err.ensures in
-    (h.0, λ taken. h.1 taken.0 taken.1)
+    refused c.args.text.now c.in_ok-line_of_end-in-Err.field-0.items c.in-Err.end c.in-Err.ensures.end c.in_ok-line_of_end-in-Err.ensures

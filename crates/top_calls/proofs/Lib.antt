@@ -1,0 +1,3 @@
+mod Sources
+pub mod Saying
+pub mod Calls

@@ -1,0 +1,28 @@
+use Rattle.std.proofs.Common.{ℕ, List, ap, inl, refl, subst}
+use Rattle.std.specs.Prelude.{Err}
+use Rattle.top_calls.specs.Sayings.{of_none, of_one}
+use Rattle.top_calls.proofs.Saying.{answered, passed-on, unanswered, words-unread}
+use Rattle.trace_program.specs.Answers.{tracer}
+use Rattle.trace_program.specs.Readings.{IsTraceAnswer}
+use Rattle.trace_program.proofs.top.answer_of.Goals as goal
+
+pub returns-in-Err-Refused : goal.returns-in-Err-Refused
+returns-in-Err-Refused g c = of_none (c.in-Err-Refused.ensures.refused (ap Err c.in-Err-Refused.field-0-is)) (inl refl) refl
+
+pub returns-in-Err-Memory : goal.returns-in-Err-Memory
+returns-in-Err-Memory g c = words-unread tracer _ _ refl refl
+
+pub returns-in_err-text : goal.returns-in_err-text
+returns-in_err-text g c =
+    of_one c.in-Ok.options c.in-Ok.ensures.ok
+    (passed-on (tracer.command_of c.in-Ok.options) _ c.from_residual.result c.in_err-text.field-0.0 c.from_residual.ensures.1 c.in_err-text.ensures.got)
+
+pub returns-in_err-answer_to : goal.returns-in_err-answer_to
+returns-in_err-answer_to g c =
+    of_one c.in-Ok.options c.in-Ok.ensures.ok
+    (unanswered (tracer.command_of c.in-Ok.options) _ c.in_ok-text.text c.from_residual-in_err-answer_to.result c.from_residual-in_err-answer_to.ensures.1 c.in_ok-text.ensures.got)
+
+pub returns : goal.returns
+returns g c =
+    of_one c.in-Ok.options c.in-Ok.ensures.ok
+    (answered (tracer.command_of c.in-Ok.options) _ c.in_ok-text.text c.in_ok-answer_to.field-0 c.in_ok-text.ensures.got (subst (λ (t : List ℕ). IsTraceAnswer c.in-Ok.options t c.in_ok-answer_to.field-0) c.deref.ensures.value c.in_ok-answer_to.ensures))
