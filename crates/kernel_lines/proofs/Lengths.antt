@@ -108,7 +108,7 @@ have_their_size setting =
     }
 
 -- of a function, and of some
-length-function : (program : ProgramTree) (texts : List Bytes) (f : FunctionTree) → length (function_lines program texts f) ≡ function_size program texts f
+pub length-function : (program : ProgramTree) (texts : List Bytes) (f : FunctionTree) → length (function_lines program texts f) ≡ function_size program texts f
 length-function program texts f =
     let setting = setting_of program texts f in
     two (block_lines setting 0 0 f.body) (of_line f.line (when setting.value + 1)) (length-block setting 0 0 f.body) (all f.line (when setting.value + 1))

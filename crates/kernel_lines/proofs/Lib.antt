@@ -1,3 +1,6 @@
+mod Bare
+mod Begins
 mod Lengths
 mod Forms
 mod Ready
+mod Texts

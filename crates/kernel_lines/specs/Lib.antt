@@ -1,3 +1,4 @@
+pub mod HaveLines
 pub mod KernelLines
 pub mod Laws
 pub mod Parts

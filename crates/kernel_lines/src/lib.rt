@@ -8,5 +8,5 @@ mod program;
 mod sizes;
 mod stretches;
 
-pub use laws::each_instruction_has_a_line;
+pub use laws::{each_instruction_has_a_line, what_asks_has_a_line};
 pub use program::program_lines;

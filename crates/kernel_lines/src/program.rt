@@ -1,6 +1,6 @@
 // The lines of a whole program.
 
-ghost use Rattle.std.specs.Prelude.{◌≡◌, ◌≤◌, ◌++◌, All, IfOk, OnOk};
+ghost use Rattle.std.specs.Prelude.{◌≡◌, ◌≤◌, ◌++◌, All, Contains, IfOk, OnOk};
 ghost use Rattle.kern_syntax.specs.Nodes.{program_nodes};
 ghost use Rattle.kern_syntax.specs.TreeOf.{function_of, tree_of};
 ghost use Rattle.code_law.specs.Laws.{IsFit};
@@ -67,7 +67,8 @@ fn put_function(
     texts: &Texts,
     function: &Function,
 ) -> Result<(), AllocError>
-    requires { IsReadySomewhere (program_of program.now) texts.now (function_of function.now) }
+    requires own { Contains (program_of program.now) (function_of function.now) }
+    requires ready { IsReadySomewhere (program_of program.now) texts.now (function_of function.now) }
     ensures { OnOk result (lines.new.items ≡ lines.old.items
         ++ function_lines (program_of program.now) texts.now (function_of function.now)) }
 {

@@ -7,4 +7,5 @@ pub mod SessionLaws
 pub mod Standing
 pub mod Stepping
 pub mod Tail
+pub mod Told
 pub mod Took

@@ -3,8 +3,8 @@ use Rattle.std.specs.Prelude.{◌≡◌, ℕ, ◌-◌, ◌<◌, ◌≤◌, List,
 use Rattle.rtio_types.specs.declared.request.Reply.{Reply}
 use Rattle.core_isa.specs.declared.code.Code.{Code}
 use Rattle.core_isa.specs.declared.code.CodeFunction.{CodeFunction}
-use Rattle.core_isa.specs.Machine.{Machine, goes}
-use Rattle.core_isa.specs.Runs.{boot, steps}
+use Rattle.core_isa.specs.Machine.{Machine, ends, goes, unanswered}
+use Rattle.core_isa.specs.Runs.{boot, step, steps}
 use Rattle.core_cpu.specs.Roots.{root_place}
 use Rattle.core_cpu.specs.Standing.{Start as Beginning}
 use Rattle.kernel_places.specs.declared.place.Place.{Place}
@@ -47,6 +47,12 @@ pub record LacksLine (code : Code) (lines : List ℕ) (start : Beginning) (repli
       → steps code k (boot entry start.args start.cursor start.units replies) ≡ goes later
       → later.replies ≡ []
       → line_at lines later.top.place ≡ 0
+
+-- lines tell where code asks and begins: an instruction that asks for what it gets no reply to has one, and so has the
+-- first of each function
+pub record TellWhere (code : Code) (lines : List ℕ) : Type 0 where
+  pub asks : (m last : Machine) → step code m ≡ ends unanswered last → 1 ≤ line_at lines m.top.place
+  pub begins : (index : ℕ) (f : CodeFunction) → slice_get code.functions index ≡ Some f → 1 ≤ line_at lines f.first
 
 -- the run, whose last answered request was asked at the first of these places, stops at the second; or no line tells
 -- where

@@ -8,7 +8,8 @@ mod places;
 mod runs;
 mod sessions;
 
-pub use laws::{sessions_answer, sessions_ask};
+pub use ends::line_at;
+pub use laws::{ends_are_told, sessions_answer, sessions_ask};
 pub use place::Place;
 pub use runs::{RunPlaces, places_of_run};
 pub use sessions::places_of_session;

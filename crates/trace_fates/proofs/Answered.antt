@@ -22,8 +22,9 @@ use Rattle.rtio_core.specs.Reply.{lanes_at, reply_to_event}
 use Rattle.rtio_headline.specs.Headline.{outputs_asked}
 use Rattle.trace_fates.specs.declared.data.Fate.TheVariants as fate
 use Rattle.trace_fates.specs.Asked.{AskedOutput, IsAsked, output_by, outputs_behind}
-use Rattle.trace_fates.specs.Fates.{fate_if, fate_of, is_late}
-use Rattle.trace_fates.specs.Laws.{TellsLate, slack_of}
+use Rattle.trace_fates.specs.Fates.{fate_if, fate_of, is_late, traced_output}
+use Rattle.trace_fates.specs.Laws.{TellsLate}
+use Rattle.trace_fates.specs.Slack.{slack_of}
 use Rattle.trace_fates.proofs.Numbers.{split_asked}
 
 -- it is done before its cycle, or came too late
@@ -94,7 +95,7 @@ slack_reached (negsuc n) at less = omega (arith, ints)
 pub tells_late : (core : CoreState) → IsLawful core.config core.history → TellsLate core
 tells_late core lawful a here = by (answered_right core.config [] core.history lawful a here)
   where
-    by : IsAnsweredRight a → (fate_of core a.own a.reply ≡ fate.Late) ↔ (slack_of a <ℤ pos 8)
+    by : IsAnsweredRight a → (fate_of core a.own a.reply ≡ fate.Late) ↔ (slack_of (traced_output core a) <ℤ pos 8)
     by (inl (done, before)) = (
       (λ is. let no : is_late answer.Done ≡ true = sym (ap is_late done) ∙ late_only _ _ _ _ _ _ _ is in absurd (true≢false (sym no))),
       (λ less. let le : cycle_of a.own.1 ≤ a.at = slack_reached a.own.1.stamp a.at less in absurd (omega (arith, le, before))),

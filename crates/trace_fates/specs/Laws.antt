@@ -1,14 +1,15 @@
 -- The laws of the fates, in the words of the headline.
-use Rattle.std.specs.Prelude.{◌≡◌, ◌⊎◌, ◌↔◌, ℕ, ◌==◌, count_by, pos, ℤ, ◌-ℤ◌, ◌<ℤ◌}
+use Rattle.std.specs.Prelude.{◌≡◌, ◌⊎◌, ◌↔◌, ℕ, ◌==◌, count_by, pos, ◌<ℤ◌}
 use Rattle.rtio_types.specs.declared.event.Event.{Event}
 use Rattle.rtio_types.specs.declared.request.Reply.TheVariants as answer
-use Rattle.rtio_types.specs.Time.{mu_per_cycle, reading}
+use Rattle.rtio_types.specs.Time.{mu_per_cycle}
 use Rattle.rtio_core.specs.Core.{CoreState}
 use Rattle.rtio_headline.specs.Headline.{IsAmong, IsPutOut, submitted}
 use Rattle.trace_fates.specs.declared.data.Fate.TheVariants.{CameOut, Late}
 use Rattle.trace_fates.specs.declared.data.TracedOutput.{TracedOutput}
 use Rattle.trace_fates.specs.Asked.{AskedOutput, IsAsked, outputs_of}
-use Rattle.trace_fates.specs.Fates.{fate_of, lost}
+use Rattle.trace_fates.specs.Fates.{fate_of, lost, traced_output}
+use Rattle.trace_fates.specs.Slack.{slack_of}
 
 -- of the submitted ones exactly those came out that the headline says are put out
 abbrev pub TellsSubmitted : CoreState → Type 0
@@ -22,16 +23,12 @@ TellsAsked core =
     → IsAsked a (outputs_of core.history)
     → (fate_of core a.own a.reply ≡ CameOut) ↔ IsPutOut core a.own
 
--- an output's slack (mu): its stamp, less what the counter read at the answer
-abbrev pub slack_of : AskedOutput → ℤ
-slack_of a = a.own.1.stamp -ℤ pos (reading a.at)
-
 -- exactly those came too late that had less slack than a cycle
 abbrev pub TellsLate : CoreState → Type 0
 TellsLate core =
     (a : AskedOutput)
     → IsAsked a (outputs_of core.history)
-    → (fate_of core a.own a.reply ≡ Late) ↔ (slack_of a <ℤ pos mu_per_cycle)
+    → (fate_of core a.own a.reply ≡ Late) ↔ (slack_of (traced_output core a) <ℤ pos mu_per_cycle)
 
 -- how many of the lost ones have a number
 abbrev pub lost_lines : CoreState → ℕ → ℕ

@@ -1,4 +1,5 @@
 pub mod Asked
 pub mod Fates
 pub mod Passes
+pub mod Slack
 pub mod Laws

@@ -1,4 +1,3 @@
 mod Asking
-mod Known
 mod Placing
 mod Telling

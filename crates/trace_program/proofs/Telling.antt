@@ -1,6 +1,6 @@
 -- That a trace tells of a run of the kernel that a text is.
 use Rattle.std.proofs.Common.{◌≡◌, ℕ, List, length, refl, sym, ap, subst}
-use Rattle.std.specs.Prelude.{Ok, Err, Result, IfOk, pos}
+use Rattle.std.specs.Prelude.{◌≤◌, Ok, Err, Result, IfOk, Option, pos, unwrap_or}
 use Rattle.rtio_types.specs.declared.outcome.Outcome.{Outcome}
 use Rattle.rtio_core.specs.declared.data.Entry.{Entry}
 use Rattle.rtio_core.specs.Core.{CoreState, new_core}
@@ -12,16 +12,18 @@ use Rattle.code_forms.specs.Programs.{code_of_program}
 use Rattle.code_law.specs.DoesAs.{DoesAs}
 use Rattle.core_session.specs.Sessions.{Answered}
 use Rattle.kernel_lines.specs.KernelLines.{program_lines}
+use Rattle.kernel_lines.specs.Laws.{AskersHaveLines, FirstsHaveLines, HasLine}
 use Rattle.kernel_places.specs.declared.runs.RunPlaces.{RunPlaces}
+use Rattle.kernel_places.specs.Ends.{TellWhere, line_at}
 use Rattle.kernel_places.specs.OfSessions.{AreOfSession}
 use Rattle.sim_program.specs.declared.run.Run.{Run}
 use Rattle.sim_program.specs.Readings.{IsMainRun}
-use Rattle.sim_program.specs.Reports.{status_of}
 use Rattle.sim_program.specs.Runs.{start_of}
 use Rattle.sim_program.proofs.Refused.{text-not-refused}
 use Rattle.sim_words.specs.declared.asked.Options.{Options}
-use Rattle.trace_program.specs.declared.answer.Answer.{Answer}
-use Rattle.trace_program.specs.declared.answer.Answer.TheVariants as A
+use Rattle.top_calls.specs.declared.answer.Answer.{Answer}
+use Rattle.top_calls.specs.declared.answer.Answer.TheVariants as A
+use Rattle.top_calls.specs.Statuses.{status_of}
 use Rattle.trace_program.specs.Places.{HasPlaces, beginning}
 use Rattle.trace_program.specs.Readings.{IsTraceAnswer, IsTraceOf}
 
@@ -44,21 +46,38 @@ pub seen-session : (code seen : Code) (budget : ℕ) (history : List Entry) (ask
 seen-session code seen budget history asked steps seen_is s =
     subst (λ (k : Code). AreOfSession k budget (start_of k.main) (pos 0) history asked steps) (sym seen_is) s
 
+-- a line that there is isn't 0
+own-line : (lines : List ℕ) (place : ℕ) → HasLine lines place → 1 ≤ line_at lines place
+own-line lines place has = subst (λ (o : Option ℕ). 1 ≤ unwrap_or o 0) (sym has.1) has.2
+
+-- the lines of a program tell where its code asks and begins
+pub tell-where : (program : ProgramTree) (code : Code) → code ≡ code_of_program program → AskersHaveLines program → FirstsHaveLines program → TellWhere code (program_lines program)
+tell-where program code is_code askers firsts =
+    subst (λ (k : Code). TellWhere k (program_lines program)) (sym is_code)
+    (record {
+      asks = λ m last so. own-line (program_lines program) m.top.place (askers m last so);
+      begins = λ index f found. own-line (program_lines program) f.first (firsts index f found);
+    })
+
 -- its places, as those of the code that was seen
-pub main-places : (program : ProgramTree) (code seen : Code) (lines : List ℕ) (budget : ℕ) (history : List Entry) (asked : List Answered) (steps : ℕ) (places : RunPlaces)
+pub main-places : (program : ProgramTree) (code seen : Code) (lines : List ℕ) (budget : ℕ) (history : List Entry) (asked : List Answered) (how : Outcome) (steps : ℕ) (places : RunPlaces)
     → seen ≡ code → lines ≡ program_lines program
+    → TellWhere code (program_lines program)
     → AreOfSession code budget (start_of code.main) (pos 0) history asked steps
-    → ((asked : List Answered) → AreOfSession seen budget (start_of seen.main) (pos 0) history asked steps → HasPlaces seen lines (beginning seen.main budget) asked steps places.asked.items places.end)
-    → HasPlaces code (program_lines program) (beginning code.main budget) asked steps places.asked.items places.end
-main-places program code seen lines budget history asked steps places seen_is lines_are s has =
-    subst (λ (l : List ℕ). HasPlaces code l (beginning code.main budget) asked steps places.asked.items places.end) lines_are
-    (subst (λ (k : Code). HasPlaces k lines (beginning k.main budget) asked steps places.asked.items places.end) seen_is
-    (has asked (seen-session code seen budget history asked steps seen_is s)))
+    → (TellWhere seen lines → (asked : List Answered) → AreOfSession seen budget (start_of seen.main) (pos 0) history asked steps → HasPlaces seen lines (beginning seen.main budget) asked how steps places.asked.items places.end)
+    → HasPlaces code (program_lines program) (beginning code.main budget) asked how steps places.asked.items places.end
+main-places program code seen lines budget history asked how steps places seen_is lines_are tell s has =
+    let seen-tell : TellWhere seen lines =
+    subst (λ (l : List ℕ). TellWhere seen l) (sym lines_are) (subst (λ (k : Code). TellWhere k (program_lines program)) (sym seen_is) tell)
+    in
+    subst (λ (l : List ℕ). HasPlaces code l (beginning code.main budget) asked how steps places.asked.items places.end) lines_are
+    (subst (λ (k : Code). HasPlaces k lines (beginning k.main budget) asked how steps places.asked.items places.end) seen_is
+    (has seen-tell asked (seen-session code seen budget history asked steps seen_is s)))
 
 module _ (options : Options) (text : Bytes) (program : ProgramTree) (code : Code) (run : Run) (places : RunPlaces)
     (kernel : IsKernelText text program) (does : DoesAs program code) (is_code : code ≡ code_of_program program)
     (made : IsMainRun program code options run.core run.outcome run.steps)
-    (has : HasPlaces code (program_lines program) (beginning code.main options.budget) made.counted.asked run.steps places.asked.items places.end) where
+    (has : HasPlaces code (program_lines program) (beginning code.main options.budget) made.counted.asked run.outcome run.steps places.asked.items places.end) where
   trace-answer : (answer : Answer) → IsTraceOf options.config.horizon options.budget run (program_lines program) places answer → IsTraceAnswer options text answer
   trace-answer (A.Due bytes finish) tells = (
     record {
@@ -85,6 +104,7 @@ module _ (options : Options) (text : Bytes) (program : ProgramTree) (code : Code
     λ told refused. text-not-refused text told program kernel refused,
   )
   trace-answer (A.Refused told) tells = absurd tells
+  trace-answer (A.Bad told) tells = absurd tells
 
   pub trace-answers : {E : Type 0} (result : Result Answer E) (lines : List ℕ) → lines ≡ program_lines program
       → IfOk result (λ answer. IsTraceOf options.config.horizon options.budget run lines places answer)

@@ -5,8 +5,9 @@ use Rattle.rtio_core.specs.Core.{CoreState}
 use Rattle.code_forms.specs.Programs.{code_of_program}
 use Rattle.kernel_lines.specs.KernelLines.{program_lines}
 use Rattle.kernel_places.specs.declared.place.Place.{Place}
-use Rattle.sim_program.specs.declared.finish.Finish.{Finish}
-use Rattle.sim_program.specs.Reports.{finish_of, status_of}
+use Rattle.top_calls.specs.declared.finish.Finish.{Finish}
+use Rattle.top_calls.specs.Statuses.{status_of}
+use Rattle.sim_program.specs.Reports.{finish_of}
 use Rattle.sim_program.specs.Runs.{RunsKernel}
 use Rattle.sim_report.specs.Pending.{pends}
 use Rattle.sim_words.specs.declared.asked.Options.{Options}
@@ -49,6 +50,7 @@ pub record TellsTrace (options : Options) (text written : List â„•) (status : â„
       (program_lines run.program)
       (beginning run.main options.budget)
       run.counted.runs.asked
+      how
       steps
       asked
       end

@@ -13,23 +13,15 @@ ghost use Rattle.trace_program.specs.Readings.{IsTraceAnswer, IsTraceOf};
 use crate::places::{places_of_main, text_place, text_places};
 use core_code::Compiled;
 use kern_accepted::compile_text;
-use kernel_lines::program_lines;
+use kernel_lines::{program_lines, what_asks_has_a_line};
 use kernel_places::{Place, RunPlaces};
-use sim_program::{Finish, Run, finish_of, line_of_end, run_main};
+use sim_program::{Run, finish_of, line_of_end, run_main};
 use sim_report::pends;
 use sim_words::Options;
 use std::alloc::{AllocError, Global};
+use top_calls::Answer;
 use trace_fates::{TracedOutput, traced_outputs};
 use trace_report::{Ended, TextPlace, misses, trace};
-
-/// What the program says of a text.
-#[derive(Drop)]
-pub enum Answer {
-    /// The trace of a run of the kernel, and how that was finished.
-    Due { bytes: Vec<u8>, finish: Finish },
-    /// The line that says why the text is refused.
-    Refused(Vec<u8>),
-}
 
 /// Runs the kernel that a text is and traces the run, or says why the text is refused.
 pub fn answer_to(alloc: Global, options: Options, text: &[u8]) -> Result<Answer, AllocError>
@@ -57,6 +49,7 @@ fn answer_of_kernel(
     ensures { (text : List ℕ) → IsTextOf text (tree_of compiled.now.0) →
         IfOk result (λ answer. IsTraceAnswer options text answer) }
 {
+    what_asks_has_a_line();
     let budget = options.budget;
     let horizon = options.config.horizon;
     let lines = program_lines(alloc, compiled.checked())?;

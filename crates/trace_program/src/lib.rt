@@ -7,4 +7,5 @@ mod places;
 mod top;
 mod words;
 
-pub use top::{trace_top, without_memory};
+pub use top::trace_top;
+pub use top_calls::without_memory;

@@ -1,22 +1,24 @@
 // Where a run of a kernel asked, and where it stopped.
 
-ghost use Rattle.std.specs.Prelude.{◌≡◌, ◌-◌, ◌<◌, ◌^◌, List, None, map, pos, IfOk};
+ghost use Rattle.std.specs.Prelude.{◌≡◌, ◌≢◌, ◌-◌, ◌<◌, ◌^◌, List, map, pos, true, false, IfOk};
+ghost use Rattle.rtio_types.specs.declared.outcome.Outcome.TheVariants.{Returned};
 ghost use Rattle.core_session.specs.Sessions.{Answered};
-ghost use Rattle.kernel_places.specs.Ends.{line_at};
+ghost use Rattle.kernel_places.specs.Ends.{TellWhere};
 ghost use Rattle.kernel_places.specs.OfSessions.{AreOfSession};
 ghost use Rattle.sim_program.specs.Runs.{start_of};
 ghost use Rattle.trace_program.specs.Places.{HasPlaces, beginning, main_line, text_place};
 
 use core_image::Verified;
-use kernel_places::{Place, RunPlaces, places_of_session};
+use kernel_places::{Place, RunPlaces, ends_are_told, line_at, places_of_session};
 use rtio_core::StartOf;
-use rtio_types::IntList;
+use rtio_types::{IntList, Outcome};
 use sim_program::Run;
 use std::alloc::{AllocError, Global};
 use trace_report::TextPlace;
 
 /// The places at which a run of the main function of accepted code asked its requests, and the one at which it stopped. That
-/// one isn't told where the count of the run's instructions stands at its end. `lines` has the line of each instruction.
+/// one is told where the run didn't return, and the count of its instructions doesn't stand at its end. `lines` has the line
+/// of each instruction.
 pub fn places_of_main(
     alloc: Global,
     code: &Verified,
@@ -26,14 +28,33 @@ pub fn places_of_main(
 ) -> Result<RunPlaces, AllocError>
     requires { (asked : List Answered)
         × AreOfSession code.now budget (start_of code.now.main) (pos 0) run.now.core.history asked run.now.steps }
-    ensures { IfOk result (λ places. (asked : List Answered) →
+    ensures { IfOk result (λ places. TellWhere code.now lines.now → (asked : List Answered) →
         AreOfSession code.now budget (start_of code.now.main) (pos 0) run.now.core.history asked run.now.steps →
-        HasPlaces code.now lines.now (beginning code.now.main budget) asked run.now.steps places.asked.items places.end) }
+        HasPlaces code.now lines.now (beginning code.now.main budget) asked run.now.outcome run.now.steps places.asked.items places.end) }
 {
+    ends_are_told();
     let main = code.code().main;
     let of = start_of(alloc, main as u32);
-    let places = places_of_session(alloc, code, &of, 0, budget, run.core.history(), lines)?;
-    Ok(if_counted(places, run.steps))
+    let places = places_of_session(
+        alloc,
+        code,
+        &of,
+        0,
+        budget,
+        run.core.history(),
+        lines,
+        seeks_end(run),
+    )?;
+    Ok(places)
+}
+
+// Whether it is told where a run stopped.
+fn seeks_end(run: &Run) -> bool
+    ensures sought { run.now.outcome ≢ Returned → run.now.steps < 2 ^ 64 - 1 → result ≡ true }
+    ensures returned { run.now.outcome ≡ Returned → result ≡ false }
+    ensures stands { run.now.steps ≡ 2 ^ 64 - 1 → result ≡ false }
+{
+    !matches!(run.outcome, Outcome::Returned) && run.steps < u64::MAX
 }
 
 // What the session of a function runs.
@@ -46,22 +67,6 @@ fn start_of(alloc: Global, function: u32) -> StartOf
         args: IntList::of(Vec::new(alloc)),
         rid: 0,
         pos: 0,
-    }
-}
-
-// The places of a run, without the one at which it stopped where the count of its instructions stands at its end.
-fn if_counted(places: RunPlaces, steps: u64) -> RunPlaces
-    ensures asked { result.asked ≡ places.asked }
-    ensures told { steps < 2 ^ 64 - 1 → result.end ≡ places.end }
-    ensures untold { steps ≡ 2 ^ 64 - 1 → result.end ≡ None }
-{
-    if steps == u64::MAX {
-        RunPlaces {
-            asked: places.asked,
-            end: None,
-        }
-    } else {
-        places
     }
 }
 
@@ -95,11 +100,4 @@ fn main_line(lines: &[u32], place: Place) -> Option<u32>
     ensures { result ≡ main_line lines.now place }
 {
     Some(line_at(lines, place.root?))
-}
-
-// The line of the instruction at a place, or 0 where it has none.
-fn line_at(lines: &[u32], place: u32) -> u32
-    ensures { result ≡ line_at lines.now place }
-{
-    lines.get(place as usize).copied().unwrap_or(0)
 }

@@ -7,9 +7,9 @@ use Rattle.sim_report.specs.Lines.{spaced}
 use Rattle.sim_report.specs.Names.{exception_name}
 use Rattle.trace_fates.specs.declared.data.Fate.{Fate}
 use Rattle.trace_fates.specs.declared.data.Fate.TheVariants as fate
+use Rattle.trace_fates.specs.Slack.{slack_of}
 use Rattle.trace_report.specs.declared.place.TextPlace.{TextPlace}
 use Rattle.trace_report.specs.declared.outputs.Placed.{Placed}
-use Rattle.trace_report.specs.Outputs.{slack_of}
 use Rattle.trace_report.specs.Places.{place_text}
 
 -- why an output didn't come out, behind a blank; nothing where it did

@@ -1,15 +1,15 @@
 -- The answered requests of a run, and the outputs among them, each with its place.
-use Rattle.std.specs.Prelude.{Bool, true, false, List, map, filter, fold, zip, ℤ, pos, ◌-ℤ◌, int_le}
+use Rattle.std.specs.Prelude.{Bool, true, false, List, map, filter, fold, zip, int_le}
 use Rattle.std.specs.Prelude.{Option, Some, None, if◌then◌else◌}
 use Rattle.std.specs.List.{list_any}
 use Rattle.rtio_types.specs.declared.request.Request.TheVariants as ask
-use Rattle.rtio_types.specs.Time.{reading}
 use Rattle.rtio_core.specs.declared.data.Act.{Act}
 use Rattle.rtio_core.specs.declared.data.Act.TheVariants.{Asked}
 use Rattle.rtio_core.specs.declared.data.Entry.{Entry}
 use Rattle.trace_fates.specs.declared.data.Fate.{Fate}
 use Rattle.trace_fates.specs.declared.data.Fate.TheVariants as fate
 use Rattle.trace_fates.specs.declared.data.TracedOutput.{TracedOutput}
+use Rattle.trace_fates.specs.Slack.{slack_of}
 use Rattle.trace_report.specs.declared.outputs.Placed.{Placed}
 use Rattle.trace_report.specs.declared.place.TextPlace.{TextPlace}
 
@@ -38,10 +38,6 @@ with_places places outputs = map (λ p. record { place = p.0; output = p.1 }) (z
 -- the outputs of a history, with the places of their requests
 abbrev pub placed : List TextPlace → List TracedOutput → List Entry → List Placed
 placed places outputs history = with_places (output_places (answered places history)) outputs
-
--- how much later (mu) the stamp of an output was than what the counter read at its answer
-abbrev pub slack_of : TracedOutput → ℤ
-slack_of output = output.event.stamp -ℤ pos (reading output.at)
 
 -- of an output and those before it the one with the least slack, of equals the first
 abbrev pub lesser : Option Placed → Placed → Option Placed

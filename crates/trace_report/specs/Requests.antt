@@ -16,7 +16,8 @@ use Rattle.trace_fates.specs.declared.data.Fate.{Fate}
 use Rattle.trace_fates.specs.declared.data.Fate.TheVariants as fate
 use Rattle.trace_report.specs.declared.place.TextPlace.{TextPlace}
 use Rattle.trace_fates.specs.declared.data.TracedOutput.{TracedOutput}
-use Rattle.trace_report.specs.Outputs.{is_output, slack_of}
+use Rattle.trace_fates.specs.Slack.{slack_of}
+use Rattle.trace_report.specs.Outputs.{is_output}
 use Rattle.trace_report.specs.Places.{place_text}
 
 -- how many events a recording has, and its length

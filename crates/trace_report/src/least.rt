@@ -4,9 +4,10 @@ ghost use Rattle.std.specs.Prelude.{◌≡◌, ◌++◌, OnOk, string_bytes};
 ghost use Rattle.trace_report.specs.Lines.{least_line};
 ghost use Rattle.trace_report.specs.Outputs.{least_of, lesser};
 
-use crate::outputs::{Placed, slack_of};
+use crate::outputs::Placed;
 use crate::place::write_place;
 use std::alloc::AllocError;
+use trace_fates::slack_of;
 
 /// The output with the least slack, of equals the first.
 pub fn least_of(outputs: &[Placed]) -> Option<Placed>

@@ -2,15 +2,14 @@
 
 ghost use Rattle.std.specs.Prelude.{◌≡◌, ◌++◌, IfOk, OnOk};
 ghost use Rattle.std.specs.Option.{option_to_list};
-ghost use Rattle.rtio_types.specs.Time.{reading};
 ghost use Rattle.trace_fates.specs.Fates.{is_out};
-ghost use Rattle.trace_report.specs.Outputs.{is_missing, is_output, misses, placed, slack_of};
+ghost use Rattle.trace_report.specs.Outputs.{is_missing, is_output, misses, placed};
 ghost use Rattle.trace_report.specs.Walk.{next_placed};
 
 use crate::passed::{Passed, passed_by};
 use crate::place::TextPlace;
 use rtio_core::{Act, Entry};
-use rtio_types::{MU_PER_CYCLE, Request};
+use rtio_types::Request;
 use std::alloc::{AllocError, Global};
 use trace_fates::{Fate, TracedOutput};
 
@@ -82,20 +81,6 @@ fn is_output(entry: &Entry) -> bool
             ..
         }
     )
-}
-
-/// How much later the stamp of an output was than what the counter read at its answer (mu); below 0 where it was earlier.
-pub fn slack_of(output: &TracedOutput) -> i128
-    ensures { result ≡ slack_of output.now }
-{
-    i128::from(output.event.stamp) - reading(output.at) as i128
-}
-
-/// What a counter of any number of cycles reads (mu).
-pub fn reading(counter: u64) -> u128
-    ensures { result ≡ reading counter }
-{
-    u128::from(MU_PER_CYCLE) * u128::from(counter)
 }
 
 /// Whether an output came out.

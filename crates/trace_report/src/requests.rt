@@ -5,14 +5,13 @@ ghost use Rattle.trace_report.specs.Outputs.{answered};
 ghost use Rattle.trace_report.specs.Requests.{asked_text, found_text, request_lines};
 ghost use Rattle.trace_report.specs.Walk.{act_text, line_at};
 
-use crate::outputs::reading;
 use crate::passed::{Passed, passed_by};
 use crate::place::{TextPlace, write_place};
 use crate::words::{write_output, write_request};
 use rtio_core::{Act, Entry};
 use rtio_types::{Reply, Request};
 use std::alloc::AllocError;
-use trace_fates::TracedOutput;
+use trace_fates::{TracedOutput, reading};
 
 /// Appends the line of each answered request of a history: they stand at these places, and the outputs among them are these.
 pub fn write_requests(

@@ -4,11 +4,10 @@ ghost use Rattle.std.specs.Prelude.{◌≡◌, ◌++◌, codes, OnOk, string_byt
 ghost use Rattle.std.specs.Fmt.{signed_decimal};
 ghost use Rattle.trace_report.specs.Requests.{event_text, how_text, output_text, recording_text, reply_text, request_text, slack_text};
 
-use crate::outputs::slack_of;
 use rtio_types::{Event, Name, Recording, Reply, Request};
 use sim_report::{text_of, write_value};
 use std::alloc::AllocError;
-use trace_fates::{Fate, TracedOutput};
+use trace_fates::{Fate, TracedOutput, slack_of};
 
 /// Appends a request that is no output, and its reply.
 pub fn write_request(text: &mut String, request: &Request, reply: &Reply) -> Result<(), AllocError>

@@ -2,12 +2,17 @@ use Rattle.std.proofs.Common.{◌≡◌, ◌+◌, ◌∷◌, ◌++◌, drop, ap,
 use Rattle.kern_syntax.specs.TreeOf.{function_of, tree_of}
 use Rattle.kern_expression_types.proofs.Lists.{drop-item}
 use Rattle.kern_names.specs.ScopeOf.{program_of}
+use Rattle.kern_names.proofs.Members.{item_is_among}
 use Rattle.kernel_lines.specs.KernelLines.{function_lines, functions_lines}
 use Rattle.kernel_lines.proofs.Ready.{ready_at}
 use Rattle.kernel_lines.proofs.program.functions_lines.Goals as goal
 
-pub put_function-requires : goal.put_function-requires
-put_function-requires c =
+pub put_function-requires-clause-own : goal.put_function-requires-clause-own
+put_function-requires-clause-own c =
+    item_is_among c.args.program.now.functions.now c.loop-function.function-index c.function-item.result c.loop-function-test.true c.function-item.is
+
+pub put_function-requires-clause-ready : goal.put_function-requires-clause-ready
+put_function-requires-clause-ready c =
     ready_at (program_of c.args.program.now) c.args.texts.now c.args.program.now.functions.now c.loop-function.function-index c.function-item.result c.loop-function-test.true c.function-item.is c.requires
 
 pub loop-function-preserved : goal.loop-function-preserved

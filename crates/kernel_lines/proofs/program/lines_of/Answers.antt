@@ -1,12 +1,17 @@
 use Rattle.std.proofs.Common.{◌≡◌, All, subst, sym}
 use Rattle.kern_syntax.specs.TreeOf.{tree_of}
+use Rattle.kern_types.specs.Programs.{IsTyped}
 use Rattle.code_forms.specs.Texts.{texts_of}
 use Rattle.kernel_lines.specs.Ready.{IsReadySomewhere}
 use Rattle.kernel_lines.proofs.Ready.{all_ready}
 use Rattle.kernel_lines.proofs.program.lines_of.Goals as goal
 
 pub invariant_of-numbered : goal.invariant_of-numbered
-invariant_of-numbered c = record { numbered = c.in_ok-numbers.ensures }
+invariant_of-numbered c =
+    record {
+      numbered = c.in_ok-numbers.ensures;
+      typed = subst (λ fs. IsTyped (tree_of fs)) (sym c.functions-functions.ensures) c.requires.checked.typed;
+    }
 
 pub functions_lines-requires : goal.functions_lines-requires
 functions_lines-requires c =

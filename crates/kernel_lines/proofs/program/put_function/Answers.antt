@@ -16,6 +16,6 @@ returns c =
     let l0 = c.args.lines.now.items in
     let l1 = c.put_body.new.lines.items in
     let setting = setting_of c.new-setting.result in
-    let same : setting ≡ P.setting_of program texts f = same_setting program texts f c.in_ok-names.names c.is_some-value.result setting c.new-setting.ensures (c.in_ok-names.ensures ∙ c.in_ok-names_of.ensures) c.is_some-value.ensures in
+    let same : setting ≡ P.setting_of program texts f = same_setting program texts f c.in_ok-names.names c.is_some-value.result setting c.new-setting.ensures (c.in_ok-names.ensures ∙ c.in_ok-names_of.ensures.names) c.is_some-value.ensures in
     let put : l1 ≡ l0 ++ body_lines setting f.line f.body → l1 ≡ l0 ++ function_lines program texts f = λ e. e ∙ ap (λ s. l0 ++ body_lines s f.line f.body) same in
     on_ok_weaker c.put_body.result put c.put_body.ensures

@@ -10,7 +10,7 @@ use Rattle.kernel_places.specs.Places.{answered_in}
 use Rattle.kernel_places.proofs.runs.places_of_run.Goals as goal
 
 pub returns-clause-end : goal.returns-clause-end
-returns-clause-end c = λ start ran begins asks runs short.
+returns-clause-end c = λ seeks start ran begins asks runs short.
     let now = c.places_asked.new.cpu in
     let lines = c.args.lines.now in
     let replies : List Reply = replies_of (answered_in c.args.session.now) in
@@ -19,7 +19,7 @@ returns-clause-end c = λ start ran begins asks runs short.
     let same : c.copied.result ≡ last = c.copied.ensures ∙ c.last.ensures.value ∙ ap last_of c.deref.ensures.value in
     subst (λ (o : Option Place). StopsFrom c.args.cpu.code lines start replies o c.in_ok-end.end) same
     (subst (λ (k : Code). StopsFrom k lines start replies c.copied.result c.in_ok-end.end) code
-    (c.in_ok-end.ensures start replies ran
+    (c.in_ok-end.ensures.sought seeks start replies ran
     (subst (λ (o : Option Place). IsBehind start replies o now) (sym same) (c.in_ok-asked.ensures.behind start begins asks))
     (subst (λ (k : Code). Runs k start.function start.args start.cursor start.units replies ran) (sym code) runs)
     short))

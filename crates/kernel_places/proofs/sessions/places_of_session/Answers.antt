@@ -44,7 +44,7 @@ returns-clause-asked c = λ asked count s.
     (c.in_ok-places.ensures.asked start first each))
 
 pub returns-clause-end : goal.returns-clause-end
-returns-clause-end c = λ asked count s short.
+returns-clause-end c = λ seeks asked count s short.
     let same : c.code-accepted.result.now ≡ c.args.code.now = c.code-accepted.ensures.value in
     let code : c.in_ok-cpu.cpu.code ≡ c.args.code.now = c.in_ok-cpu.ensures.code in
     let start : Beginning = beginning c.args.of.now c.args.cursor c.args.units in
@@ -66,4 +66,4 @@ returns-clause-end c = λ asked count s short.
     subst (λ (l : List Answered). StopsFrom c.args.code.now lines start (replies_of l) last places.end)
     (answers c.args.code.now c.args.units c.args.of.now c.args.cursor c.args.session.now asked count s)
     (subst (λ (k : Code). StopsFrom k lines start (replies_of (answered_in c.args.session.now)) last places.end) code
-    (c.in_ok-places.ensures.end start s.session.ran first each ran few))
+    (c.in_ok-places.ensures.end seeks start s.session.ran first each ran few))

@@ -1,4 +1,4 @@
-use Rattle.std.proofs.Common.{ap, subst, sym, ◌∙◌}
+use Rattle.std.proofs.Common.{[], ap, subst, sym, ◌∙◌}
 use Rattle.core_cpu.specs.Standing.{HasEntry}
 use Rattle.core_isa.specs.declared.code.Code.{Code}
 use Rattle.rtio_core.specs.declared.data.StartOf.{StartOf}
@@ -22,12 +22,15 @@ places_of_session-requires-clause-session c =
     )
 
 pub returns : goal.returns
-returns c = λ asked s.
+returns c = λ tell asked s.
     let of_is = c.start_of-of.ensures ∙ ap (λ (k : Code). start_of k.main) c.code.ensures.value in
     let own = session-of c.args.code.now c.args.budget c.start_of-of.result c.history.result.now _ asked c.args.run.now.steps of_is c.history.ensures.value s in
-    placed c.args.code.now c.args.lines.now c.args.budget c.start_of-of.result asked c.args.run.now.steps c.in_ok-places.places c.if_counted.result of_is
+    placed c.args.code.now c.args.lines.now c.args.budget c.start_of-of.result asked c.args.run.now.outcome c.args.run.now.steps c.seeks_end.result c.in_ok-places.places of_is
+    (subst (λ (k : Code). HasEntry k k.main []) c.code.ensures.value (has-main c.code.result.now c.code.ensures.in_range c.code.ensures.main))
+    (c.ends_are_told.ensures c.args.code.now c.args.lines.now tell)
     (c.in_ok-places.ensures.asked asked c.args.run.now.steps own)
-    (c.in_ok-places.ensures.end asked c.args.run.now.steps own)
-    c.if_counted.ensures.asked
-    c.if_counted.ensures.told
-    c.if_counted.ensures.untold
+    (λ seeks. c.in_ok-places.ensures.end seeks asked c.args.run.now.steps own)
+    c.in_ok-places.ensures.unsought
+    c.seeks_end.ensures.sought
+    c.seeks_end.ensures.returned
+    c.seeks_end.ensures.stands
