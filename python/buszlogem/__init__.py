@@ -4,8 +4,8 @@
     report = buszlogem.run("def main():\\n    at_mu(1000)\\n    ttl0.pulse_mu(500)\\n")
     print(report.outputs, report.ok)
 
-It is a companion over the programs `artiq_sim` and `artiq_lab`: what they promise is proved, this package is tested.
-docs/PYTHON.md has all of it.
+It is a companion over the programs `artiq_sim`, `artiq_trace` and `artiq_lab`: what they promise is proved, this package is
+tested. docs/PYTHON.md has all of it.
 """
 
 from . import steps
@@ -13,7 +13,7 @@ from .compare import Comparison, compare
 from .day import Day
 from .errors import BuszlogemError, KernelError, NotOk, OptionError, ProgramError, ProgramMissing
 from .gates import Gate, Sensitivity, gates
-from .kernels import int32, int64, kernel
+from .kernels import Line, int32, int64, kernel
 from .lab import SessionError, laboratory
 from .lab_causes import Failure, FailureKind
 from .lab_report import LabReport, RunStatus
@@ -25,10 +25,15 @@ from .run import check, run
 from .slack import Slack, SlackWord, slack
 from .sweep import grid, sweep
 from .table import Row, Table
+from .trace import trace
+from .trace_lines import LineSlack
+from .trace_parts import AskedOutput, LossReason, LostOutput, OutputAnswer, Place, Request, RequestKind
+from .trace_report import Trace
 from .version import VERSION as __version__
 
 __all__ = [
     "CHANNEL_NAMES",
+    "AskedOutput",
     "Basis",
     "BuszlogemError",
     "Comparison",
@@ -39,16 +44,24 @@ __all__ = [
     "Gate",
     "KernelError",
     "LabReport",
+    "Line",
+    "LineSlack",
     "LossKind",
+    "LossReason",
     "Lost",
+    "LostOutput",
     "Margin",
     "MissingModule",
     "NotOk",
     "OptionError",
     "Output",
+    "OutputAnswer",
+    "Place",
     "ProgramError",
     "ProgramMissing",
     "Report",
+    "Request",
+    "RequestKind",
     "Row",
     "RunStatus",
     "Sensitivity",
@@ -56,6 +69,7 @@ __all__ = [
     "Slack",
     "SlackWord",
     "Table",
+    "Trace",
     "__version__",
     "check",
     "compare",
@@ -71,4 +85,5 @@ __all__ = [
     "slack",
     "steps",
     "sweep",
+    "trace",
 ]

@@ -17,6 +17,7 @@ from .version import VERSION
 COMMANDS: tuple[str, ...] = (
     "run_command",
     "explain_command",
+    "trace_command",
     "plot_command",
     "sweep_command",
     "margin_command",
@@ -32,8 +33,8 @@ NOT_OK = 10
 
 _STATUSES = """\
 The status is that of the program: 0 all came out, 1 the kernel is refused, 2 wrong words, 3 a file can't be read, 4 the
-report can't be written, 5 memory, 6 an exception ended the kernel, 7 it met the horizon or its budget, or outputs pend,
-8 too long. Under --strict it is 10 where outputs are lost, and 70 where a program isn't built."""
+report can't be written, 5 memory, 6 an exception ended the kernel, 7 it met the horizon or its budget, or outputs pend (in a
+trace, are missing), 8 too long. Under --strict it is 10 where outputs are lost, and 70 where a program isn't built."""
 
 
 class Unwritable(Exception):

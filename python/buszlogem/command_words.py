@@ -6,9 +6,13 @@ import argparse
 import sys
 from typing import Any
 
+from .cli import NOT_OK
 from .errors import OptionError
 from .kernels import KernelText, whole
 from .options import NUMBERS, TAKES
+from .report import Report
+from .run import Job
+from .trace import not_ok
 
 
 def add_kernel(parser: argparse.ArgumentParser) -> None:
@@ -49,6 +53,21 @@ def options_of(parsed: argparse.Namespace) -> dict[str, Any]:
         "call": parsed.call,
         "args": [argument(word) for word in parsed.args],
     }
+
+
+def add_strict(parser: argparse.ArgumentParser) -> None:
+    """Adds the option `--strict`."""
+    parser.add_argument(
+        "--strict", action="store_true", help=f"tells what is lost, and from which line; then the status is {NOT_OK} in place of 0"
+    )
+
+
+def status_of_run(job: Job, report: Report, strict: bool) -> int:
+    """The status of a run; under `--strict` what isn't right with it is told on standard error."""
+    if not strict or report.ok:
+        return report.status
+    print(not_ok(job, report), file=sys.stderr)
+    return report.status or NOT_OK
 
 
 def read_edges_word(word: str | None) -> dict[str | int, list[tuple[Any, str]]] | None:

@@ -6,6 +6,8 @@ from typing import TYPE_CHECKING
 
 if TYPE_CHECKING:
     from .report import Report
+    from .trace_parts import Place
+    from .trace_report import Trace
 
 
 class BuszlogemError(Exception):
@@ -68,13 +70,21 @@ class NotOk(BuszlogemError):
 
     Attributes
     ----------
-    report : Report
-        The report of the run.
+    report : Report or None
+        The report of the run; None where `trace` made it.
+    trace : Trace or None
+        Its trace; None where `artiq_trace` isn't built.
+    place : Place or None
+        Where the first thing that isn't right was asked, by the trace.
     """
 
-    def __init__(self, why: str, report: Report) -> None:
-        super().__init__(why)
+    def __init__(
+        self, why: str, report: Report | None = None, trace: Trace | None = None, place: Place | None = None
+    ) -> None:
+        super().__init__(f"{why}\n{place}" if place else why)
         self.report = report
+        self.trace = trace
+        self.place = place
 
 
 class KernelError(BuszlogemError):

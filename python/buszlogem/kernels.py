@@ -22,7 +22,9 @@ int64 = int
 """A type of kernels: an integer of 64 bits that wraps. Python's own integers don't."""
 
 _TEXT = "<kernel>"
-_CALL = "<call>"
+CALL = "<call>"
+"""The file of the `main` that `call=` puts behind a text."""
+
 _LEAST_INT64, _MOST_INT64 = -(2**63), 2**63 - 1
 _LEAST_INT32 = -(2**31)
 # A text in double quotes, a comment, or the name main: where the first two are taken whole, a main in them is left alone.
@@ -38,6 +40,28 @@ def kernel(function: _Function) -> _Function:
     A function that is marked so is put before a kernel that names it.
     """
     return function
+
+
+@dataclasses.dataclass(frozen=True)
+class Line:
+    """A line of a kernel, where the user has it.
+
+    Attributes
+    ----------
+    file : str
+        Its file, `<kernel>` of a text.
+    number : int
+        Its number there, from 1.
+    source : str
+        The line as it stands there.
+    """
+
+    file: str
+    number: int
+    source: str
+
+    def __str__(self) -> str:
+        return f"{self.file}:{self.number}: {self.source.strip()}"
 
 
 @dataclasses.dataclass(frozen=True)
@@ -86,6 +110,11 @@ class KernelText:
             place -= len(origin.lines)
         last = self.origins[-1]
         return last, len(last.lines) - 1
+
+    def line(self, number: int) -> Line:
+        """A line of the text as it stands where it comes from. Lines are counted from 1."""
+        origin, place = self.origin_of(number)
+        return Line(origin.file, origin.first + place, origin.lines[place])
 
 
 def read_kernel(kernel: KernelLike, call: str | None = None, args: Sequence[int | bool] = ()) -> KernelText:
@@ -210,7 +239,7 @@ def _with_call(text: KernelText, call: str, args: Sequence[int | bool]) -> Kerne
     called = other if call == "main" and other is not None else call
     behind = ("def main():", f"    {called}({', '.join(map(_argument, args))})")
     shown = (behind[0], f"    {call}({', '.join(map(_argument, args))})")
-    return KernelText(data + "\n".join([*behind, ""]).encode(), (*text.origins, Origin(_CALL, 1, 0, shown)))
+    return KernelText(data + "\n".join([*behind, ""]).encode(), (*text.origins, Origin(CALL, 1, 0, shown)))
 
 
 def _other_name(text: str) -> str | None:

@@ -5,7 +5,7 @@ from __future__ import annotations
 from typing import TYPE_CHECKING
 
 from .lab_report import LabReport, LabRun, RunStatus
-from .plots import BLUE, GREY, ORANGE, RED, SKY, legend, new_axes
+from .plots import BLUE, GREY, ORANGE, RED, legend, new_axes
 
 if TYPE_CHECKING:
     import matplotlib.axes

@@ -5,16 +5,19 @@ from __future__ import annotations
 import dataclasses
 import enum
 import functools
+import warnings
 from collections.abc import Callable, Sequence
-from typing import Any
+from typing import Any, NamedTuple
 
-from .errors import KernelError
-from .kernels import KernelLike, KernelText, read_kernel
+from .errors import ProgramMissing
+from .kernels import KernelLike, KernelText, Line, read_kernel
 from .options import NUMBERS, read_number, sim_words
-from .report import CHANNEL_NAMES, Report
+from .report import CHANNEL_NAMES
 from .run import Job
 from .slack import Slack, SlackWord, ask_slack
-from .tightest import Line, late_line, line_with_stamp
+from .trace import trace_of
+from .trace_parts import AskedOutput, OutputAnswer, Place
+from .trace_report import Trace
 
 MOST_COST = NUMBERS["cost"].most
 
@@ -43,9 +46,14 @@ class Margin:
     stamp : int or None
         The stamp of the output that is too late first, at a cost above the margin, in mu; None where there is none.
     channel : int or None
-        Its channel, where `slack` names it.
-    line : Line or None
-        The line that puts it out, the tightest of the kernel; None where runs don't show which it is.
+        Its channel.
+    number : int or None
+        How many outputs were asked before it.
+    place : Place or None
+        Where it is asked, by the trace; None where no run asks it, or `artiq_trace` isn't built. `line` is its line alone.
+    tightest : AskedOutput or None
+        The output with the least slack at the margin, with its slack (mu) and the place that asked it, by the trace of a run at
+        that cost; None where there is none, or `artiq_trace` isn't built.
     runs : int
         How many runs were made to find the cost.
     """
@@ -55,8 +63,15 @@ class Margin:
     verdict: Slack
     stamp: int | None = None
     channel: int | None = None
-    line: Line | None = None
+    number: int | None = None
+    place: Place | None = None
+    tightest: AskedOutput | None = None
     runs: int = 0
+
+    @property
+    def line(self) -> Line | None:
+        """The line that asks the output that is too late first, where the user has it."""
+        return self.place.line if self.place else None
 
     def __str__(self) -> str:
         if self.cost is None:
@@ -67,10 +82,24 @@ class Margin:
             head = f"margin {self.cost} mu, by {self.by}"
         if self.by is Basis.RUNS:
             head += f" ({self.runs} runs; slack is {self.verdict})"
-        if self.stamp is not None:
-            name = f" on {CHANNEL_NAMES[self.channel]}" if self.channel is not None else ""
-            head += f"\nthe output{name} at {self.stamp} mu is the first to be too late"
-        return f"{head}\n{self.line}" if self.line else head
+        return "\n".join([head, *self._first_late(), *self._tightest()])
+
+    def _first_late(self) -> list[str]:
+        if self.stamp is None:
+            return []
+        name = f" on {CHANNEL_NAMES[self.channel]}" if self.channel is not None else ""
+        said = f"the output{name} at {self.stamp} mu is the first to be too late"
+        return [said, str(self.place)] if self.place else [said]
+
+    def _tightest(self) -> list[str]:
+        found = self.tightest
+        if found is None:
+            return []
+        behind = f"with a slack of {found.slack} mu"
+        if (found.number, found.place) == (self.number, self.place):
+            return [f"at {self.cost} mu it is the tightest, {behind}"]
+        said = f"at {self.cost} mu the output on {found.name} at {found.stamp} mu is the tightest, {behind}"
+        return [said, str(found.place)]
 
 
 def margin(
@@ -103,7 +132,8 @@ def margin(
     Returns
     -------
     Margin
-        The cost in mu, what it rests on, and the tightest line.
+        The cost in mu, what it rests on, the line that is too late first above it, and the tightest line at it. The lines are
+        told by `artiq_trace`; a warning says where it isn't built.
 
     Raises
     ------
@@ -118,7 +148,7 @@ def margin(
     -----
     A yes of `slack` at some cost is a yes at every smaller one, which is proved; so twenty questions find the greatest. Runs are
     tried at doubled costs up to the first that is late, and between it and the last that wasn't. An underflow that the kernel
-    itself takes by `except RTIOUnderflow` isn't seen in a run.
+    itself takes by `except RTIOUnderflow` doesn't count in a run; the tightest output then has a slack below 8 mu.
     """
     trial = _Trial(read_kernel(kernel, call, args), read_number("depth", depth), tuple(schedules), options)
     in_time, verdict = trial.by_slack()
@@ -127,11 +157,20 @@ def margin(
         in_time = trial.by_runs(in_time)
     runs = trial.runs
     cost = None if in_time < 0 else in_time
+    tightest = None if cost is None else trial.tightest(cost)
     if in_time == MOST_COST:
-        return Margin(cost, basis, verdict, runs=runs)
-    if basis is Basis.RUNS:
-        return Margin(cost, basis, verdict, *trial.late_output(in_time + 1), runs)
-    return Margin(cost, basis, verdict, verdict.stamp, verdict.channel, trial.named_line(verdict), runs)
+        return Margin(cost, basis, verdict, tightest=tightest, runs=runs)
+    late = trial.late_output(in_time + 1) if basis is Basis.RUNS else trial.named_output(verdict, max(in_time, 0))
+    return Margin(cost, basis, verdict, *late, tightest, runs)
+
+
+class _Late(NamedTuple):
+    """The output that is too late first, as far as it is known: its stamp in mu, its channel, its number, and its place."""
+
+    stamp: int | None = None
+    channel: int | None = None
+    number: int | None = None
+    place: Place | None = None
 
 
 @dataclasses.dataclass
@@ -162,38 +201,48 @@ class _Trial:
             good, step = cost, step * 2
         return good
 
-    def late(self, cost: int) -> tuple[str, Report] | None:
-        """The first schedule under which an underflow ends a run at a cost, with its report."""
+    def late(self, cost: int) -> tuple[str, int] | None:
+        """The first schedule under which an underflow ends a run at a cost, and where its cursor stood (mu)."""
         for schedule in self.schedules:
             self.runs += 1
-            report = self.report(self.kernel.data, cost, schedule)
-            if report is not None and report.exception == "RTIOUnderflow":
-                return schedule, report
+            report = self.job(cost, schedule).run()
+            if report.exception == "RTIOUnderflow":
+                return schedule, report.cursor
         return None
 
-    def report(self, data: bytes, cost: int, schedule: str) -> Report | None:
-        """The report of a text at a cost, None where the text is refused."""
-        words = sim_words(cost=cost, depth=self.depth, schedule=schedule, **self.options)
+    def job(self, cost: int, schedule: str) -> Job:
+        """The run at a cost under a schedule."""
+        return Job(self.kernel, sim_words(cost=cost, depth=self.depth, schedule=schedule, **self.options))
+
+    def trace(self, cost: int, schedule: str) -> Trace | None:
+        """The trace of the run at a cost under a schedule; None, with a warning, where the program isn't built."""
         try:
-            return Job(dataclasses.replace(self.kernel, data=data), words).run()
-        except KernelError:
+            return trace_of(self.job(cost, schedule))
+        except ProgramMissing as why:
+            warnings.warn(f"no line is told: {why}", stacklevel=4)
             return None
 
-    def late_output(self, cost: int) -> tuple[int | None, None, Line | None]:
-        """The stamp of the output that is too late in a run at a cost, None for its channel, and its line."""
+    def tightest(self, cost: int) -> AskedOutput | None:
+        """The output with the least slack in the runs at a cost."""
+        traces = [self.trace(cost, schedule) for schedule in self.schedules]
+        found = [output for trace in traces if trace for output in trace.tightest(1)]
+        return min(found, key=lambda output: output.slack) if found else None
+
+    def late_output(self, cost: int) -> _Late:
+        """The output that is too late in a run at a cost."""
         found = self.late(cost)
         if found is None:
-            return None, None, None
-        schedule, report = found
-        line = late_line(self.kernel, lambda data: self.report(data, cost, schedule))
-        return report.cursor, None, line
+            return _Late()
+        schedule, stamp = found
+        trace = self.trace(cost, schedule)
+        late = [output for output in trace.outs if output.how is OutputAnswer.LATE] if trace else []
+        return _Late(late[-1].stamp, late[-1].channel, late[-1].number, late[-1].place) if late else _Late(stamp)
 
-    def named_line(self, verdict: Slack) -> Line | None:
-        """The line of the output that a no names; it need not be late in a run."""
-        if verdict.stamp is None or verdict.channel is None:
-            return None
-        channel = CHANNEL_NAMES[verdict.channel]
-        return line_with_stamp(self.kernel, lambda data: self.report(data, 0, "lockstep"), verdict.stamp, channel)
+    def named_output(self, verdict: Slack, cost: int) -> _Late:
+        """The output that a no names, by its number in a run at a cost at which all before it are in time."""
+        trace = self.trace(cost, self.schedules[0])
+        place = next((it.place for it in trace.outs if it.number == verdict.number), None) if trace else None
+        return _Late(verdict.stamp, verdict.channel, verdict.number, place)
 
 
 def greatest(holds: Callable[[int], bool], low: int, high: int) -> int:

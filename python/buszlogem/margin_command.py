@@ -17,9 +17,9 @@ def add_command(commands: argparse._SubParsersAction[argparse.ArgumentParser]) -
     parser = commands.add_parser(
         "margin",
         help="finds the greatest cost of a request without underflow",
-        description="Finds the greatest cost of a request, in mu, at which no output comes too late, and the line that is too"
-        f" late first above it. By slack where it answers, by runs where it is open. The status is {LATE} where an output is too"
-        " late even at cost 0.",
+        description="Finds the greatest cost of a request, in mu, at which no output comes too late, the line that is too late"
+        " first above it, and the tightest line at it. By slack where it answers, by runs where it is open; the lines by"
+        f" artiq_trace. The status is {LATE} where an output is too late even at cost 0.",
     )
     add_kernel(parser)
     parser.add_argument("--by", choices=[str(basis) for basis in Basis], help="what to go by")

@@ -28,8 +28,8 @@ def photons(report: Played, channel: int | str, rate: Rate, seed: int) -> dict[s
     channel : int or str
         24 to 31, or `in0` to `in7`.
     rate : float, or sequence of float of shape (gates,), or callable
-        Photons in a second, 0 to 1e9: one rate for all gates, one for each gate in the order of their starts, or a function that gives
-        that of a `Gate`.
+        Photons in a second, 0 to 1e9: one rate for all gates, one for each gate in the order of their starts, or a function that
+        gives that of a `Gate`.
     seed : int
         The same seed gives the same photons.
 

@@ -4,10 +4,10 @@ from __future__ import annotations
 
 import argparse
 
-from .command_words import add_kernel, add_options, kernel_of, options_of
+from .command_words import add_kernel, add_options, add_strict, kernel_of, options_of, status_of_run
 from .errors import OptionError
 from .report import channel_number
-from .run import run
+from .run import prepare
 
 ENDINGS = (".png", ".svg", ".pdf")
 
@@ -23,6 +23,7 @@ def add_command(commands: argparse._SubParsersAction[argparse.ArgumentParser]) -
     add_picture(parser, required=True)
     parser.add_argument("--channels", metavar="NAME,..", help="the channels, from the top row down, as ttl0,in0")
     parser.add_argument("--window", metavar="US:US", help="the first and the last time, in us, as 120:345.5")
+    add_strict(parser)
     add_options(parser)
     parser.set_defaults(do=_do)
 
@@ -30,9 +31,10 @@ def add_command(commands: argparse._SubParsersAction[argparse.ArgumentParser]) -
 def _do(parsed: argparse.Namespace) -> int:
     path = picture_of(parsed)
     channels, window = _channels(parsed.channels), read_window(parsed.window)
-    report = run(kernel_of(parsed), **options_of(parsed))
+    job = prepare(kernel_of(parsed), **options_of(parsed))
+    report = job.run()
     report.plot(channels=channels, window=window).figure.savefig(path)
-    return report.status
+    return status_of_run(job, report, parsed.strict)
 
 
 def add_picture(parser: argparse.ArgumentParser, required: bool = False) -> None:

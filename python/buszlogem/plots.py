@@ -282,13 +282,13 @@ class Drawing:
         legend(self.axes)
 
 
-def legend(axes: matplotlib.axes.Axes) -> None:
-    """Says above the axes what each colour and marker is, each once."""
+def legend(axes: matplotlib.axes.Axes, columns: int = 4) -> None:
+    """Says above the axes what each colour and marker is, each once, in some columns."""
     handles, labels = axes.get_legend_handles_labels()
     once = dict(zip(labels, handles))
     if once:
         axes.legend(
-            once.values(), once.keys(), loc="lower left", bbox_to_anchor=(0, 1), ncols=4, frameon=False, fontsize=8
+            once.values(), once.keys(), loc="lower left", bbox_to_anchor=(0, 1), ncols=columns, frameon=False, fontsize=8
         )
 
 

@@ -1,4 +1,4 @@
-"""How the programs `artiq_sim` and `artiq_lab` are found and started.
+"""How the programs `artiq_sim`, `artiq_lab` and `artiq_trace` are found and started.
 
 A program is looked for in this order:
 
@@ -24,7 +24,7 @@ from collections.abc import Iterable, Sequence
 from .errors import ProgramError, ProgramMissing
 
 FOLDER_VARIABLE = "BUSZLOGEM_BIN"
-PROGRAMS = ("artiq_sim", "artiq_lab")
+PROGRAMS = ("artiq_sim", "artiq_lab", "artiq_trace")
 
 _PACKAGE = pathlib.Path(__file__).resolve().parent
 
@@ -57,7 +57,7 @@ def find(name: str) -> pathlib.Path:
 
     Parameters
     ----------
-    name : {"artiq_sim", "artiq_lab"}
+    name : {"artiq_sim", "artiq_lab", "artiq_trace"}
 
     Raises
     ------
@@ -125,7 +125,7 @@ def start(name: str, words: Sequence[str], given: str | bytes, timeout: float | 
 
     Parameters
     ----------
-    name : {"artiq_sim", "artiq_lab"}
+    name : {"artiq_sim", "artiq_lab", "artiq_trace"}
     words : sequence of str
         The command and its options, as `("slack", "--cost", "800")`.
     given : str or bytes

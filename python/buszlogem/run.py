@@ -7,7 +7,7 @@ import hashlib
 from collections.abc import Mapping, Sequence
 
 from . import programs
-from .errors import NotOk, OptionError, ProgramError
+from .errors import OptionError, ProgramError
 from .faults import kernel_error
 from .kernels import KernelLike, KernelText, read_kernel
 from .options import TAKES, Edges, Recordings, sim_words
@@ -49,7 +49,9 @@ class Job:
         answer = ask(self.words, self.kernel, timeout)
         report = Report.read(answer.out, answer.status, self.words, self.sha256)
         if strict and not report.ok:
-            raise NotOk(report.why_not_ok(), report)
+            from .trace import not_ok  # It stands on this module.
+
+            raise not_ok(self, report, timeout)
         return report
 
 
@@ -149,7 +151,8 @@ def run(
     OptionError
         Where an option has a value that it doesn't take.
     NotOk
-        Under `strict`: where the kernel didn't return, outputs are lost, or some pend.
+        Under `strict`: where the kernel didn't return, outputs are lost, or some pend. Where `artiq_trace` is built, the run is
+        made once more by it, and the error names the line.
     ProgramMissing, ProgramError
         Where the program isn't there, or couldn't answer.
     OSError
@@ -179,15 +182,17 @@ def run(
     return job.run(strict=strict, timeout=timeout)
 
 
-def ask(words: Sequence[str], kernel: KernelText, timeout: float | None = None) -> programs.Answer:
-    """Starts `artiq_sim` on a kernel's text, and returns what it answered where the text was taken.
+def ask(
+    words: Sequence[str], kernel: KernelText, timeout: float | None = None, program: str = "artiq_sim"
+) -> programs.Answer:
+    """Starts `artiq_sim`, or `artiq_trace`, on a kernel's text, and returns what it answered where the text was taken.
 
     Raises
     ------
     KernelError, OptionError, ProgramError, ProgramMissing
         As `run`.
     """
-    answer = programs.start("artiq_sim", words, kernel.data, timeout)
+    answer = programs.start(program, words, kernel.data, timeout)
     if answer.status in REPORTED:
         return answer
     if answer.status == REFUSED:
@@ -196,7 +201,7 @@ def ask(words: Sequence[str], kernel: KernelText, timeout: float | None = None) 
         # All else was tried before; only the program reads the bytes of recordings.
         raise OptionError("recordings", words[list(words).index("--recordings") + 1], TAKES["recordings"])
     why = _WHY.get(answer.status, answer.err.strip() or "it said nothing")
-    raise ProgramError(answer.status, answer.err, f"artiq_sim ended with status {answer.status}: {why}")
+    raise ProgramError(answer.status, answer.err, f"{program} ended with status {answer.status}: {why}")
 
 
 def check(kernel: KernelLike) -> str:

@@ -3,11 +3,10 @@
 from __future__ import annotations
 
 import argparse
-import sys
 
-from .cli import NOT_OK, write
-from .command_words import add_kernel, add_options, kernel_of, options_of
-from .run import run
+from .cli import write
+from .command_words import add_kernel, add_options, add_strict, kernel_of, options_of, status_of_run
+from .run import prepare
 
 
 def add_command(commands: argparse._SubParsersAction[argparse.ArgumentParser]) -> None:
@@ -20,14 +19,12 @@ def add_command(commands: argparse._SubParsersAction[argparse.ArgumentParser]) -
     add_kernel(parser)
     add_options(parser)
     parser.add_argument("--dma", choices=["lines"], help="lists the recordings that the core keeps at the end")
-    parser.add_argument("--strict", action="store_true", help=f"status {NOT_OK} where outputs are lost")
+    add_strict(parser)
     parser.set_defaults(do=_do)
 
 
 def _do(parsed: argparse.Namespace) -> int:
-    report = run(kernel_of(parsed), **options_of(parsed), dma=parsed.dma is not None)
+    job = prepare(kernel_of(parsed), **options_of(parsed), dma=parsed.dma is not None)
+    report = job.run()
     write(report.text)
-    if parsed.strict and not report.ok:
-        print(report.why_not_ok(), file=sys.stderr)
-        return report.status or NOT_OK
-    return report.status
+    return status_of_run(job, report, parsed.strict)

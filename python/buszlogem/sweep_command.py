@@ -14,7 +14,7 @@ from .plot_command import add_picture, picture_of
 from .sweep import grid, processors, sweep
 
 FAILED = 10
-"""The status where a row has an error."""
+"""The status where a row has an error; under `--strict` also where one isn't ok."""
 
 _RANGE = re.compile(r"(-?\d+):(-?\d+):(-?\d+)", re.ASCII)
 _TAKES = "NAME=V,V,.. or NAME=FIRST:BEHIND:STEP, whole numbers"
@@ -40,6 +40,9 @@ def add_command(commands: argparse._SubParsersAction[argparse.ArgumentParser]) -
     parser.add_argument("--jobs", metavar="N", type=int, default=processors(), help="how many programs run at once")
     parser.add_argument("--resume", metavar="FILE", help="keeps finished points in this file, and takes them from there")
     parser.add_argument("--quiet", action="store_true", help="no progress bar")
+    parser.add_argument(
+        "--strict", action="store_true", help=f"status {FAILED} also where a kernel didn't return, or outputs are lost or pend"
+    )
     add_picture(parser)
     parser.add_argument("--plot", metavar="X,Y", help="the columns that -o draws, as wait,photons")
     add_options(parser)
@@ -58,7 +61,7 @@ def _do(parsed: argparse.Namespace) -> int:
     table.write_csv(sys.stdout)
     if path is not None:
         table.plot(*columns).figure.savefig(path)
-    return FAILED if table.failed else 0
+    return FAILED if table.failed or (parsed.strict and not table.ok) else 0
 
 
 def read_values(word: str) -> tuple[str, list[int]]:

@@ -19,13 +19,10 @@ PAGE = ROOT / "docs" / "PYTHON.md"
 
 
 class Documents(SimCase):
+    needed = programs.PROGRAMS
+
     def test_what_the_page_shows(self):
-        used = {"artiq_sim": programs.find("artiq_sim")}
-        if "laboratory(" in PAGE.read_text():
-            try:
-                used["artiq_lab"] = programs.find("artiq_lab")
-            except programs.ProgramMissing as why:
-                self.skipTest(str(why))
+        used = {name: programs.find(name) for name in self.needed}
         with tempfile.TemporaryDirectory() as folder, contextlib.redirect_stdout(io.StringIO()) as told:
             checker = check_documents.Checker(used, pathlib.Path(folder))
             python = pathlib.Path(folder) / "bin" / "python3"

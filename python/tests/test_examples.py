@@ -28,6 +28,8 @@ class Stored(unittest.TestCase):
 
 @needs("matplotlib")
 class Scripts(SimCase):
+    needed = ("artiq_sim", "artiq_trace")
+
     def carried_out(self, name):
         """What a copy of a script writes to standard output; it has to write its picture beside itself."""
         folder = pathlib.Path(self.enterContext(tempfile.TemporaryDirectory()))
@@ -44,8 +46,11 @@ class Scripts(SimCase):
         # A try takes 2650 mu and makes five requests. From 531 on five costs are more, and each try falls behind by the rest:
         # 5 mu at 531, which 81 tries bear, 10 mu at 532, which use up the 522 mu of the gate's end in the 54th try.
         out = self.carried_out("heralding_loop.py")
+        # The tightest at 531 is that end in the last try.
         self.assertIn("in try 81\nmargin 531 mu, by runs ", out)
-        self.assertIn(f"the output at {125_000 + 54 * 2650} mu is the first to be too late\n", out)
+        self.assertIn(f"the output on in0 at {125_000 + 54 * 2650} mu is the first to be too late\n", out)
+        self.assertIn(f"at 531 mu the output on in0 at {125_000 + 81 * 2650} mu is the tightest, with a slack of ", out)
+        self.assertRegex(out, r"(?m)^ *\d+ +162 +1\d\d\* +end = in0\.gate_rising_mu\(500\)$")
         self.assertTrue(out.endswith(": end = in0.gate_rising_mu(500)\n"), out)
 
     def test_the_ramsey_fringe(self):

@@ -161,7 +161,7 @@ class Days(unittest.TestCase):
 
 
 class Laboratory(SimCase):
-    program = "artiq_lab"
+    needed = ("artiq_lab",)
 
     def test_the_days_of_the_examples(self):
         for name in DAYS:
@@ -265,10 +265,7 @@ FAILURES = [
 class Failures(SimCase):
     """A refused source is asked about of `artiq_sim`, so both programs are needed."""
 
-    @classmethod
-    def setUpClass(cls):
-        for cls.program in ("artiq_sim", "artiq_lab"):
-            super().setUpClass()
+    needed = ("artiq_sim", "artiq_lab")
 
     def test_each_kind(self):
         for name, day, kind, step, said in FAILURES:

@@ -86,6 +86,13 @@ class Commands(ShellCase):
         status, out, err = self.shell.run("buszlogem plot examples/too_late.py -o run.svg --channels ttl0 --window 0:1")
         self.assertEqual((status, out, err), (6, "", ""))
 
+    @needs("matplotlib")
+    def test_plot_strict(self):
+        status, out, err = self.shell.run("buszlogem plot examples/collisions.py -o run.svg --strict")
+        self.assertEqual((status, out), (10, ""))
+        self.assertTrue(err.startswith("outputs that are lost: 3, the first by seq: number 14 on ttl8 at 4000 mu\n"), err)
+        self.assertEqual(self.shell.run("buszlogem plot examples/pair_of_pulses.py -o run.svg --strict"), (0, "", ""))
+
     def test_plot_without_matplotlib(self):
         # A module in the folder stands before those that are installed.
         self.write("matplotlib.py", "raise ImportError\n")
@@ -108,6 +115,11 @@ class Commands(ShellCase):
         rows = list(csv.DictReader(io.StringIO(out)))
         self.assertEqual((status, [row["end"] for row in rows]), (0, ["ok", "raised RTIOUnderflow"]))
 
+    def test_sweep_strict(self):
+        for words, wanted in (("", 0), ("--strict", 10)):
+            self.assertEqual(self.shell.run(f"buszlogem sweep steps.py --over cost=0,2000 {words}")[0], wanted)
+        self.assertEqual(self.shell.run("buszlogem sweep steps.py --over cost=0,8 --strict")[0], 0)
+
     def test_sweep_with_an_error(self):
         status, out, _ = self.shell.run("buszlogem sweep train.py --call train --over wait=1 --over depth=0,1 --over pulses=1")
         rows = list(csv.DictReader(io.StringIO(out)))
@@ -119,18 +131,6 @@ class Commands(ShellCase):
         status, _, err = self.shell.run(f"buszlogem sweep train.py {words}")
         self.assertEqual((status, err), (0, ""))
         self.assertTrue((self.shell.folder / "a.png").read_bytes().startswith(b"\x89PNG"))
-
-    def test_margin(self):
-        # The second output is asked for at the cost, and is late from 1600 on.
-        said = "margin 1599 mu, by slack\nthe output on ttl0 at 1600 mu is the first to be too late\nsteps.py:5: ttl0.off()\n"
-        self.assertEqual(self.shell.run("buszlogem margin steps.py"), (0, said, ""))
-        status, out, _ = self.shell.run("buszlogem margin steps.py --by runs --schedules lockstep,mix:1")
-        self.assertEqual((status, out.split(",")[0]), (0, "margin 1599 mu"))
-
-    def test_margin_of_a_kernel_that_is_late(self):
-        status, out, err = self.shell.run("buszlogem margin examples/too_late.py")
-        self.assertEqual((status, err), (6, ""))
-        self.assertTrue(out.startswith("an output is too late at cost 0, by slack\n"))
 
     def test_compare(self):
         self.write("later.py", STEPS.replace("1600", "1700"))
@@ -153,11 +153,27 @@ class Commands(ShellCase):
             self.assertTrue(err.startswith("wrong.py:2:5: type Unknown: "), err)
 
 
+class MarginCommand(ShellCase):
+    needed = ("artiq_sim", "artiq_trace")
+
+    def test_margin(self):
+        # The second output is asked for at the cost, and is late from 1600 on; at 1599 the counter reads 1592.
+        said = (
+            "margin 1599 mu, by slack\nthe output on ttl0 at 1600 mu is the first to be too late\nsteps.py:5: ttl0.off()\n"
+            "at 1599 mu it is the tightest, with a slack of 8 mu\n"
+        )
+        self.assertEqual(self.shell.run("buszlogem margin steps.py"), (0, said, ""))
+        status, out, _ = self.shell.run("buszlogem margin steps.py --by runs --schedules lockstep,mix:1")
+        self.assertEqual((status, out.split(",")[0]), (0, "margin 1599 mu"))
+
+    def test_margin_of_a_kernel_that_is_late(self):
+        said = "the output on ttl0 at 0 mu is the first to be too late\nexamples/too_late.py:5: ttl0.on()\n"
+        found = self.shell.run("buszlogem margin examples/too_late.py")
+        self.assertEqual(found, (6, f"an output is too late at cost 0, by slack\n{said}", ""))
+
+
 class DayCommand(ShellCase):
-    @classmethod
-    def setUpClass(cls):
-        for cls.program in ("artiq_sim", "artiq_lab"):
-            super().setUpClass()
+    needed = ("artiq_sim", "artiq_lab")
 
     def test_day(self):
         status, out, err = self.shell.run("buszlogem day examples/day_of_one_trap.json")

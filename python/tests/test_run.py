@@ -9,7 +9,7 @@ import tempfile
 import unittest
 
 import later_kernels
-from support import EXAMPLES, ROOT, SimCase, kernels_of_examples
+from support import EXAMPLES, ROOT, SimCase, kernels_of_examples, options_of_words
 
 import buszlogem
 from buszlogem import Edge, OptionError, int32, int64, kernel, programs, run
@@ -45,10 +45,7 @@ class Reports(SimCase):
     def test_the_examples_give_their_reports(self):
         for path, words, report in kernels_of_examples():
             with self.subTest(path.name):
-                edges = read_edges_word(words[words.index("--edges") + 1] if "--edges" in words else None)
-                hold = {"ttl0": 10} if "--hold" in words else None
-                others = {words[at][2:]: int(words[at + 1]) for at in range(0, len(words), 2) if words[at][2:] in NUMBERS}
-                found = run(path, edges=edges, hold=hold, **others)
+                found = run(path, **options_of_words(words))
                 self.assertEqual(found.text, report)
                 self.assertEqual(str(found), report)
 
