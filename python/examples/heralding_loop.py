@@ -53,9 +53,9 @@ def draw(report, early, margins):
     figure, (above, middle, below) = pyplot.subplots(3, figsize=(8, 9), layout="constrained", height_ratios=(2, 3, 3))
     photon = report.data["photon"] / 1000
     report.plot(ax=above, channels=["ttl0", "in0", "ttl1"], window=(photon - 8, photon + 6))
-    early.plot(ax=middle).set_ylim(0, 4)  # The outputs of the first try were 125 us earlier.
+    early.plot(ax=middle).set_ylim(-0.2, 4)  # The outputs of the first try were 125 us early.
     lines = {found.tightest.place.line for found in margins}
-    for colour, line in zip(("#0072B2", "#D55E00", "#009E73"), sorted(lines, key=lambda line: line.number)):
+    for colour, line in zip(("#0072B2", "#009E73", "#D55E00"), sorted(lines, key=lambda line: line.number)):
         shown = [(pause / 1000, it.cost) for pause, it in zip(PAUSES, margins) if it.tightest.place.line == line]
         below.plot(*zip(*shown), "o", color=colour, label=f"tightest: {line.source.strip()}")
     below.set(xlabel="pause between the tries (us)", ylabel="greatest cost of a request (mu)", ylim=(0, None))

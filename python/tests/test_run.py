@@ -8,8 +8,8 @@ import sys
 import tempfile
 import unittest
 
+from support import EXAMPLES, ROOT, SimCase, kernels_of_examples, options_of_words  # isort: skip  (it shows where the package lies)
 import later_kernels
-from support import EXAMPLES, ROOT, SimCase, kernels_of_examples, options_of_words
 
 import buszlogem
 from buszlogem import Edge, OptionError, int32, int64, kernel, programs, run
