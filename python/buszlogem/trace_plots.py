@@ -52,6 +52,7 @@ def plot_trace(trace: Trace, ax: matplotlib.axes.Axes | None = None) -> matplotl
     coloured = {row.text_line for row in lines[: len(LINE_COLOURS)]}
     for rank, (colour, row) in enumerate(zip(LINE_COLOURS, lines)):
         outputs = [it for it in trace.outs if it.place.text_line == row.text_line]
+        # The tightest is drawn last.
         _dots(axes, outputs, colour, _label(row), zorder=3 - rank / len(LINE_COLOURS))
     _dots(axes, [it for it in trace.outs if it.place.text_line not in coloured], GREY, "other lines", zorder=2)
     _marks(axes, [it for it in trace.outs if it.how is OutputAnswer.LATE], "X", "late")

@@ -34,6 +34,10 @@ OUTPUT_FIELDS = (
 )  # fmt: skip
 """The fields of the record array of outputs; `main` is 0 where there is no such line."""
 
+# An enumeration's own look-up takes longer, and a trace may have a million lines.
+_KINDS = {str(kind): kind for kind in RequestKind}
+_ANSWERS = {str(answer): answer for answer in OutputAnswer}
+
 # What stands behind the word of each kind but `out`.
 _VALUES: dict[RequestKind, tuple[str, ...]] = {
     RequestKind.COUNTER: (),
@@ -257,7 +261,7 @@ class _Lines:
                     self.counts = Counts(int(items[0]), int(items[2]), int(items[4]))
                 case _:
                     self.requests.append(self.request(word, items))
-        except (IndexError, ValueError) as why:
+        except (LookupError, ValueError) as why:
             raise ValueError(f"a trace has no line {line!r}") from why
 
     def take_end(self, items: list[str]) -> None:
@@ -268,14 +272,14 @@ class _Lines:
 
     def request(self, place: str, items: list[str]) -> Request | AskedOutput:
         """Reads `PLACE READING KIND` and what stands behind."""
-        kind = RequestKind(items[1])
+        kind = _KINDS[items[1]]
         if kind is RequestKind.OUTPUT:
             return self.output(place, int(items[0]), items[2:])
         return Request(self.place(place), int(items[0]), kind, _values(kind, items[2:]))
 
     def output(self, place: str, counter: int, items: list[str]) -> AskedOutput:
         number, stamp, channel, address, data, slack = map(int, items[:6])
-        how = OutputAnswer(items[6])
+        how = _ANSWERS[items[6]]
         name = CHANNEL_NAMES[channel]
         return AskedOutput(self.place(place), counter, number, stamp, channel, name, address, data, slack, how)
 
