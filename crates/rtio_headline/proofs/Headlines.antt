@@ -1,5 +1,5 @@
 -- The headline, of every core.
-use Rattle.std.proofs.Common.{inl, inr, ◌≡◌, ◌<◌, ◌≤◌, ◌⊎◌, ℕ, Bool, true, false, List, [], ◌∷◌, ◌++◌, refl, ap, ◌∙◌, sym, subst, append_assoc, append-nil, arith}
+use Rattle.std.proofs.Common.{inl, inr, ◌≡◌, ◌<◌, ◌≤◌, ◌⊎◌, ℕ, Bool, true, false, List, [], ◌∷◌, ◌++◌, refl, ap, ◌∙◌, sym, subst, append_assoc, arith}
 use Rattle.std.specs.Prelude.{Some, nat_le, nat_lt, IsTrue}
 use Rattle.std.proofs.lemmas.Bool.Decides.{nat_tests}
 use Rattle.rtio_types.specs.declared.event.Event.{Event}
@@ -32,12 +32,13 @@ use Rattle.rtio_core.specs.Entries.{judged_history, lane_steps}
 use Rattle.rtio_core.specs.Lawful.{IsLawful, IsLawfulAfter, MayFollow}
 use Rattle.rtio_core.specs.Reply.{lanes_at, reply_to_event, verdict_at}
 use Rattle.rtio_core.proofs.Laws.{IsLawfulAfter-front}
-use Rattle.rtio_headline.specs.Headline.{Headline, IsAmong, IsNamed, IsOverridden, PutsOut, UnderflowsExactly, done_output, outputs_asked, submitted}
+use Rattle.rtio_headline.specs.Headline.{Headline, IsAmong, IsNamed, IsNowhere, IsOverridden, PutsOut, UnderflowsExactly, done_output, is_output_act, outputs_asked, submitted}
 use Rattle.rtio_headline.proofs.Grouped.{IsFollowed, keeper-last, overridden-followed, same-cycle}
-use Rattle.rtio_headline.proofs.Kept.{keepers-rise, not-put_out-and-busy, put_out-among, put_out-or-busy, put_out-rise}
+use Rattle.rtio_headline.proofs.Kept.{busy-among, keepers-rise, not-put_out-and-busy, put_out-among, put_out-or-busy, put_out-rise}
+use Rattle.rtio_headline.proofs.Late.{not-submitted}
 use Rattle.rtio_headline.proofs.Lists.{among-filter, among-sorted, filter-among, in-order, sorted-among}
-use Rattle.rtio_headline.proofs.Placed.{IsPart, later-not-cleared, live-not-cleared, live-not-sequence, live-placed, placed-parts}
-use Rattle.rtio_headline.proofs.Submitting.{agrees, last-may, placed_in, submitted-push}
+use Rattle.rtio_headline.proofs.Placed.{IsPart, cleared-placed, later-not-cleared, live-not-cleared, live-not-sequence, live-placed, placed-parts, sequence-placed}
+use Rattle.rtio_headline.proofs.Submitting.{agrees, last-may, placed_in}
 
 -- an event of a cycle up to the counter passes
 reached-test : (counter : ℕ) (p : ℕ × Event) → cycle_of p.1 ≤ counter → nat_le (cycle_of p.1) counter ≡ true
@@ -197,18 +198,44 @@ reached-by s e counter is = by (nat_lt counter (cycle_of e)) refl
     by true less = let early : counter < cycle_of e = grind (arith, nat_tests, less) in absurd (no-underflow s e counter early is)
     by false more = grind (arith, nat_tests, more)
 
-underflows-exactly : (config : Config) (before : List Entry) (chair : ℕ) (act : Act) → MayFollow config before chair act → UnderflowsExactly before chair act
-underflows-exactly config before chair (Asked (ask.Out e) reply at) may = (
+-- what the log names was placed
+named-placed : (holds : List ℕ) (judged : List Judged) (counter : ℕ) (p : ℕ × Event) → IsNamed (logged holds judged counter) p → IsAmong p (placed_in judged)
+named-placed holds judged counter p (inl there) = sequence-placed judged p there
+named-placed holds judged counter p (inr (inl there)) =
+    live-placed judged p
+    (filter-among (λ q. is_collision (part_of (live judged) q)) p (live judged)
+    (sorted-among is_logged_before p _ (up_to-among counter p (collisions (live judged)) there).0)).0
+named-placed holds judged counter p (inr (inr (inl there))) =
+    live-placed judged p
+    (keeper-part (live judged) p
+    (busy-among holds [] (keepers (live judged)) p
+    (sorted-among is_logged_before p (busy_behind holds [] (keepers (live judged))) (up_to-among counter p (busy holds (keepers (live judged))) there).0))).0
+named-placed holds judged counter p (inr (inr (inr there))) = cleared-placed judged p there
+
+-- an output that was asked for and not submitted
+nowhere : (core : CoreState) → IsLawful core.config core.history → (before rest : List Entry) (entry : Entry) → core.history ≡ before ++ entry ∷ rest → is_output_act entry.act ≡ true
+    → done_output (outputs_asked before) entry.act ≡ [] → IsNowhere core (outputs_asked before)
+nowhere core h before rest entry is asks none = record {
+  put_out = λ e out. gone (outputs_asked before, e) refl out.asked;
+  named = λ e there.
+      gone (outputs_asked before, e) refl
+      (subst (IsAmong (outputs_asked before, e)) (sym (agrees core.config core.history h).same)
+      (named-placed core.config.holds (judged_history core.config core.history) core.counter (outputs_asked before, e) there));
+}
+  where
+    gone : (p : ℕ × Event) → p.0 ≡ outputs_asked before → IsAmong p (submitted core.history) → ⊥
+    gone p number here = not-submitted [] before rest entry p asks none number (subst (λ (l : List Entry). IsAmong p (submitted l)) is here)
+
+underflows-exactly : (core : CoreState) (before : List Entry) (chair : ℕ) (act : Act) → MayFollow core.config before chair act
+    → (is_output_act act ≡ true → done_output (outputs_asked before) act ≡ [] → IsNowhere core (outputs_asked before)) → UnderflowsExactly core before act
+underflows-exactly core before chair (Asked (ask.Out e) reply at) may gone = (
   (
-    λ late. reached-by (lanes_at config before at) e at (late-reply (verdict_at config before e at) reply may.1 late),
-    λ le. reply-late (verdict_at config before e at) reply may.1 (late-is (lanes_at config before at) e at le),
+    λ late. reached-by (lanes_at core.config before at) e at (late-reply (verdict_at core.config before e at) reply may.1 late),
+    λ le. reply-late (verdict_at core.config before e at) reply may.1 (late-is (lanes_at core.config before at) e at le),
   ),
-  λ late.
-      submitted-push [] before (record { chair = chair; act = Asked (ask.Out e) reply at })
-      ∙ ap (λ (r : Reply). submitted before ++ done_output (outputs_asked before) (Asked (ask.Out e) r at)) late
-      ∙ append-nil (submitted before),
+  λ late. gone refl (ap (λ (r : Reply). done_output (outputs_asked before) (Asked (ask.Out e) r at)) late),
 )
-underflows-exactly config before chair act may = tt
+underflows-exactly core before chair act may gone = tt
 
 -- an entry of a lawful history may follow those before it
 may-follow : (config : Config) (history before rest : List Entry) (entry : Entry) → IsLawfulAfter config [] history → history ≡ before ++ entry ∷ rest → MayFollow config before entry.chair entry.act
@@ -219,5 +246,5 @@ may-follow config history before rest entry lawful is =
 pub headline : (core : CoreState) → IsLawful core.config core.history → Headline core
 headline core h = record {
   outputs = puts-out core h;
-  underflows = λ before rest entry is. underflows-exactly core.config before entry.chair entry.act (may-follow core.config core.history before rest entry h is);
+  underflows = λ before rest entry is. underflows-exactly core before entry.chair entry.act (may-follow core.config core.history before rest entry h is) (nowhere core h before rest entry is);
 }

@@ -3,6 +3,7 @@ mod Submitting
 pub mod Placed
 mod Grouped
 mod Kept
+mod Late
 mod Headlines
 mod Few
 mod Examples

@@ -85,17 +85,20 @@ pub record PutsOut (core : CoreState) : Type 0 where
   pub in_order : AreInOrder (outputs_at core.config core.history core.counter)
   pub exactly : (p : ℕ × Event) → IsAmong p events ↔ IsPutOut core p
 
--- an output behind some entries underflows exactly where the counter has reached
--- its cycle, and then submits nothing: only those before it are submitted. The second half is true by definition, since
--- `submitted` reads only outputs that were answered Done: what it stands for is that no event put out and no line of the
--- log has this output's number
-abbrev pub UnderflowsExactly : (before : List Entry) → (chair : ℕ) → Act → Type 0
-UnderflowsExactly before chair (Asked (ask.Out e) reply at) =
+-- no event with this number is put out, and the log names none
+pub record IsNowhere (core : CoreState) (number : ℕ) : Type 0 where
+  pub put_out : (e : Event) → ¬ IsPutOut core (number, e)
+  pub named : (e : Event) → ¬ IsNamed (log_at core.config core.history core.counter) (number, e)
+
+-- an output behind some entries underflows exactly where the counter has reached its
+-- cycle, and then no event put out and no line of the log has its number
+abbrev pub UnderflowsExactly : CoreState → (before : List Entry) → Act → Type 0
+UnderflowsExactly core before (Asked (ask.Out e) reply at) =
     ((reply ≡ answer.Underflow) ↔ (cycle_of e ≤ at))
-    × (reply ≡ answer.Underflow → submitted (before ++ record { chair = chair; act = Asked (ask.Out e) reply at } ∷ []) ≡ submitted before)
-UnderflowsExactly before chair act = Unit {0}
+    × (reply ≡ answer.Underflow → IsNowhere core (outputs_asked before))
+UnderflowsExactly core before act = Unit {0}
 
 -- the headline: what is put out is what was submitted, and what came too late wasn't
 pub record Headline (core : CoreState) : Type 0 where
   pub outputs : PutsOut core
-  pub underflows : (before rest : List Entry) (entry : Entry) → core.history ≡ before ++ entry ∷ rest → UnderflowsExactly before entry.chair entry.act
+  pub underflows : (before rest : List Entry) (entry : Entry) → core.history ≡ before ++ entry ∷ rest → UnderflowsExactly core before entry.act

@@ -10,8 +10,8 @@ ghost use Rattle.rtio_headline.specs.Headline.{Headline};
 
 /// The events that a core has put out up to its counter are, by stamp and channel, exactly the outputs that it was asked for
 /// and answered with Done, less those overridden and those that its log names as sequence error, collision, busy or cleared.
-/// And an output underflowed exactly where the counter had reached its cycle, with only those before it submitted. This holds
-/// wherever the history is lawful, at any counter.
+/// And an output underflowed exactly where the counter had reached its cycle; then its number is that of no event put out and of no
+/// line of the log. This holds wherever the history is lawful, at any counter.
 pub fn what_is_put_out_was_submitted()
     ensures { (core : CoreState) → IsLawful core.config core.history → Headline core }
 {}
