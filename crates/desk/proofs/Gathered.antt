@@ -8,6 +8,7 @@ use Rattle.desk_rule.specs.Records.{one_if, same, win, chair_record, times, wins
 use Rattle.desk_rule.proofs.Weights.{each_append, each_weaker, each_left, each_right}
 use Rattle.desk_rule.proofs.Changed.{same_here}
 use Rattle.desk.specs.Seated.{Seated}
+use Rattle.desk.specs.Chairs.{HasFound}
 use Rattle.desk.specs.Closing.{HasNumber, HasTaken}
 
 -- x stands in the list
@@ -70,16 +71,16 @@ module _ {X : Type 0} where
 
 module _ {A F : Type 0} where
   -- the chair's record
-  abbrev pub record_of : Seated A F → ℕ → Record A
-  record_of c made = chair_record c.number c.seen c.own c.lost c.won made
+  abbrev pub record_of : Seated A F → Bool → ℕ → Record A
+  record_of c won made = chair_record c.number c.seen c.own c.lost won made
 
   -- among the records is the chair's
   abbrev pub Says : List (Record A) → Seated A F → Type 0
-  Says rs c = (made : ℕ) × In (record_of c made) rs
+  Says rs c = (won : Bool) × (made : ℕ) × In (record_of c won made) rs
 
   -- the record is that of one of the chairs
   abbrev pub From : List (Seated A F) → Record A → Type 0
-  From cs r = (c : Seated A F) × In c cs × (r.number ≡ Some c.number) × (r.won ≡ c.won)
+  From cs r = (c : Seated A F) × In c cs × (r.number ≡ Some c.number) × HasFound r.won c.takings
 
   -- the records are those of the chairs
   pub record Gathered (rs : List (Record A)) (cs : List (Seated A F)) : Type 0 where
@@ -87,23 +88,24 @@ module _ {A F : Type 0} where
     pub from : Each (From cs) rs
 
   -- the records of the first chair
-  pub gathered_one : (rs : List (Record A)) (c : Seated A F) (made : ℕ) → rs ≡ record_of c made ∷ [] → Gathered rs (c ∷ [])
-  gathered_one rs c made is = subst (λ (l : List (Record A)). Gathered l (c ∷ [])) (sym is)
-      (record { says = ((made, inl refl), tt); from = ((c, inl refl, refl, refl), tt) })
+  pub gathered_one : (rs : List (Record A)) (c : Seated A F) (won : Bool) (made : ℕ) → rs ≡ record_of c won made ∷ [] → HasFound won c.takings → Gathered rs (c ∷ [])
+  gathered_one rs c won made is has = subst (λ (l : List (Record A)). Gathered l (c ∷ [])) (sym is)
+      (record { says = ((won, made, inl refl), tt); from = ((c, inl refl, refl, has), tt) })
 
   -- one chair more
-  pub gathered_more : (rs qs : List (Record A)) (cs : List (Seated A F)) (c : Seated A F) (made : ℕ) → qs ≡ record_of c made ∷ [] → Gathered rs cs → Gathered (rs ++ qs) (c ∷ cs)
-  gathered_more rs qs cs c made is g =
-      let r : Record A = record_of c made in
+  pub gathered_more : (rs qs : List (Record A)) (cs : List (Seated A F)) (c : Seated A F) (won : Bool) (made : ℕ) → qs ≡ record_of c won made ∷ [] → HasFound won c.takings → Gathered rs cs
+      → Gathered (rs ++ qs) (c ∷ cs)
+  gathered_more rs qs cs c won made is has g =
+      let r : Record A = record_of c won made in
       let now : List (Record A) = rs ++ r ∷ [] in
       subst (λ (l : List (Record A)). Gathered (rs ++ l) (c ∷ cs)) (sym is) (record {
-        says = ((made, in_end r rs), each_weaker (Says rs) (Says now) (λ d s. (s.0, in_left (record_of d s.0) rs (r ∷ []) s.1)) cs g.says);
-        from = each_append (From (c ∷ cs)) rs (r ∷ []) (each_weaker (From cs) (From (c ∷ cs)) (λ q f. (f.0, inr f.1, f.2, f.3)) rs g.from) ((c, inl refl, refl, refl), tt);
+        says = ((won, made, in_end r rs), each_weaker (Says rs) (Says now) (λ d s. (s.0, s.1, in_left (record_of d s.0 s.1) rs (r ∷ []) s.2)) cs g.says);
+        from = each_append (From (c ∷ cs)) rs (r ∷ []) (each_weaker (From cs) (From (c ∷ cs)) (λ q f. (f.0, inr f.1, f.2, f.3)) rs g.from) ((c, inl refl, refl, has), tt);
       })
 
   -- what holds of the records holds of the chairs
-  pub each_chair : (P : Record A → Type 0) (Q : Seated A F → Type 0) (rs : List (Record A)) (cs : List (Seated A F)) → Gathered rs cs → ((c : Seated A F) (made : ℕ) → P (record_of c made) → Q c) → Each P rs → Each Q cs
-  each_chair P Q rs cs g f all = each_weaker (Says rs) Q (λ c s. f c s.0 (each_in P (record_of c s.0) rs s.1 all)) cs g.says
+  pub each_chair : (P : Record A → Type 0) (Q : Seated A F → Type 0) (rs : List (Record A)) (cs : List (Seated A F)) → Gathered rs cs → ((c : Seated A F) (won : Bool) (made : ℕ) → P (record_of c won made) → Q c) → Each P rs → Each Q cs
+  each_chair P Q rs cs g f all = each_weaker (Says rs) Q (λ c s. f c s.0 s.1 (each_in P (record_of c s.0 s.1) rs s.2 all)) cs g.says
 
   -- no chair is left in the list
   pub gathered_all : (rs : List (Record A)) (all items cs : List (Seated A F)) → Gathered rs cs → length items ≡ 0 → items ++ cs ≡ all → Gathered rs all
@@ -118,20 +120,20 @@ module _ {A F : Type 0} where
   number_there k rs cs g h =
       let c = has_in k cs h in
       let s = each_in (Says rs) c.0 cs c.1 g.says in
-      in_times k (record_of c.0 s.0) rs s.1 (ap Some c.2)
+      in_times k (record_of c.0 s.0 s.1) rs s.2 (ap Some c.2)
 
-  taken_in : (n : ℕ) (c : Seated A F) (cs : List (Seated A F)) → In c cs → c.number ≡ n → c.won ≡ true → HasTaken cs n
-  taken_in n c [] h number won = absurd h
-  taken_in n c (d ∷ cs) h number won = ⊎_elim
-      (λ (e : d ≡ c). inl (ap (λ (x : Seated A F). x.number) e ∙ number, ap (λ (x : Seated A F). x.won) e ∙ won))
-      (λ t. inr (taken_in n c cs t number won)) h
+  taken_in : (n : ℕ) (c : Seated A F) (cs : List (Seated A F)) → In c cs → c.number ≡ n → 0 < length c.takings → HasTaken cs n
+  taken_in n c [] h number some = absurd h
+  taken_in n c (d ∷ cs) h number some = ⊎_elim
+      (λ (e : d ≡ c). inl (ap (λ (x : Seated A F). x.number) e ∙ number, (let P : Seated A F → Type 0 = λ x. 0 < length x.takings in subst P (sym e) some)))
+      (λ t. inr (taken_in n c cs t number some)) h
 
   -- a number that has taken is that of a chair that has taken
   pub taken_there : (n : ℕ) (cs : List (Seated A F)) (rs : List (Record A)) → Each (From cs) rs → 0 < wins n rs → HasTaken cs n
   taken_there n cs [] from some = absurd (omega arith)
   taken_there n cs (r ∷ rs) from some = ⊎_elim
       (λ (none : win n r.won r.number ≡ 0). taken_there n cs rs from.1 (omega arith))
-      (λ (one : (r.won ≡ true) × (r.number ≡ Some n)). let f = from.0 in taken_in n f.0 cs f.1 (some_number (sym f.2 ∙ one.1)) (sym f.3 ∙ one.0))
+      (λ (one : (r.won ≡ true) × (r.number ≡ Some n)). let f = from.0 in taken_in n f.0 cs f.1 (some_number (sym f.2 ∙ one.1)) (let P : Bool → Type 0 = λ b. HasFound b f.0.takings in subst P one.0 f.3))
       (winner n r.won r.number)
 
 -- what the value says at the end, of all chairs
@@ -147,9 +149,9 @@ module _ {T A F : Type 0} (history : T → List (ℕ × A)) (fixed : T → F) (c
   pub ending : (rs : List (Record A)) (cs : List (Seated A F)) (x : T) → Closes history fixed chairs opened rs x → Gathered rs cs → Ending history fixed chairs opened cs x
   ending rs cs x end g = record {
     stays = end.stays;
-    seen = each_chair (λ r. IsPrefix r.seen (history x)) (λ c. IsPrefix c.seen (history x)) rs cs g (λ c made h. h) end.seen;
-    own = each_chair (λ r. (k : ℕ) → r.number ≡ Some k → acts_of k (history x) ≡ r.own) (λ c. acts_of c.number (history x) ≡ c.own) rs cs g (λ c made h. h c.number refl) end.own;
+    seen = each_chair (λ r. IsPrefix r.seen (history x)) (λ c. IsPrefix c.seen (history x)) rs cs g (λ c won made h. h) end.seen;
+    own = each_chair (λ r. (k : ℕ) → r.number ≡ Some k → acts_of k (history x) ≡ r.own) (λ c. acts_of c.number (history x) ≡ c.own) rs cs g (λ c won made h. h c.number refl) end.own;
     lost = each_chair (λ r. Each (λ n. 0 < wins n rs) r.lost) (λ c. Each (HasTaken cs) c.lost) rs cs g
-        (λ c made. each_weaker (λ n. 0 < wins n rs) (HasTaken cs) (λ n h. taken_there n cs rs g.from h) c.lost) end.lost;
+        (λ c won made. each_weaker (λ n. 0 < wins n rs) (HasTaken cs) (λ n h. taken_there n cs rs g.from h) c.lost) end.lost;
     others = end.others;
   }

@@ -49,20 +49,20 @@ desk_at table f = record { table = table; fixed = Some f }
 
 module _ {A F : Type 0} (table : TableId) (f : F) where
   -- one chair more in the room
-  pub one_more : (made : ℕ) (items now : List (Seated A F)) (t : TableId) (v : View A F) → 1 ≤ made → items ≡ new_chairs (desk_at table f) 1 (made - 1) → t ≡ table → v ≡ kinds.new_chair (first_at made f)
-      → now ≡ items ++ seated_by t made v ∷ [] → now ≡ new_chairs (desk_at table f) 1 (made + 1 - 1)
-  one_more made items now t v some were same new is =
+  pub one_more : (made : ℕ) (items now : List (Seated A F)) (t : TableId) (found : List (List (ℕ × A))) (v : View A F) → 1 ≤ made → items ≡ new_chairs (desk_at table f) 1 (made - 1)
+      → t ≡ table → found ≡ [] → v ≡ kinds.new_chair (first_at made f) → now ≡ items ++ seated_by t made found v ∷ [] → now ≡ new_chairs (desk_at table f) 1 (made + 1 - 1)
+  one_more made items now t found v some were same none new is =
       let number : made ≡ 1 + (made - 1) = omega arith in
-      let chair : seated_by t made v ≡ new_chair (desk_at table f) (1 + (made - 1)) = (λ i. seated_by (same i) made (new i)) ∙ ap (λ (j : ℕ). new_chair {A = A} (desk_at table f) j) number in
+      let chair : seated_by t made found v ≡ new_chair (desk_at table f) (1 + (made - 1)) = (λ i. seated_by (same i) made (none i) (new i)) ∙ ap (λ (j : ℕ). new_chair {A = A} (desk_at table f) j) number in
       let next : suc (made - 1) ≡ made + 1 - 1 = omega arith in
       is ∙ ((λ i. were i ++ chair i ∷ []) ∙ (new_chairs-snoc A (desk_at table f) 1 (made - 1) ∙ ap (λ (n : ℕ). new_chairs {A = A} (desk_at table f) 1 n) next))
 
   -- the first chair, put in front
-  pub first_in_front : (made chairs : ℕ) (items : List (Seated A F)) (t : TableId) (v : View A F) → 1 ≤ made → made ≡ chairs → items ≡ new_chairs (desk_at table f) 1 (made - 1) → t ≡ table → v ≡ first_at made f
-      → seated_by t 0 v ∷ items ≡ new_chairs (desk_at table f) 0 chairs
-  first_in_front made chairs items t v some all were same new =
+  pub first_in_front : (made chairs : ℕ) (items : List (Seated A F)) (t : TableId) (found : List (List (ℕ × A))) (v : View A F) → 1 ≤ made → made ≡ chairs
+      → items ≡ new_chairs (desk_at table f) 1 (made - 1) → t ≡ table → found ≡ [] → v ≡ first_at made f → seated_by t 0 found v ∷ items ≡ new_chairs (desk_at table f) 0 chairs
+  first_in_front made chairs items t found v some all were same none new =
       let next : suc (made - 1) ≡ chairs = omega arith in
-      (λ i. seated_by (same i) 0 (new i) ∷ were i) ∙ ap (λ (n : ℕ). new_chairs {A = A} (desk_at table f) 0 n) next
+      (λ i. seated_by (same i) 0 (none i) (new i) ∷ were i) ∙ ap (λ (n : ℕ). new_chairs {A = A} (desk_at table f) 0 n) next
 
 module _ {X : Type 0} where
   length_snoc : (xs : List X) (x : X) → length (xs ++ x ∷ []) ≡ suc (length xs)

@@ -15,15 +15,16 @@ pub record Opened (F : Type 0) : Type 0 where
   pub fixed : F
   pub chairs : ℕ
 
--- a chair: its desk, its number, what it has seen of the history, what it put, the
--- numbers that its lost tries read, and whether it has taken and holds the value
+-- a chair: its desk, its number, what it has seen of the history, what it put, the numbers
+-- that its lost tries read, the history as each of its takings found it, in order, and whether
+-- it holds the value
 pub record Seated (A F : Type 0) : Type 0 where
   pub desk : DeskId F
   pub number : ℕ
   pub seen : List (ℕ × A)
   pub own : List A
   pub lost : List ℕ
-  pub won : Bool
+  pub takings : List (List (ℕ × A))
   pub holds : Bool
 
 -- lost tries of the chair with this number have read more numbers, each that of another chair
@@ -38,16 +39,16 @@ pub record Telling (A F : Type 0) : Type 0 where
 module _ {A F : Type 0} where
   -- a chair that was just made
   abbrev pub new_chair : DeskId F → ℕ → Seated A F
-  new_chair id k = record { desk = id; number = k; seen = []; own = []; lost = []; won = false; holds = false }
+  new_chair id k = record { desk = id; number = k; seen = []; own = []; lost = []; takings = []; holds = false }
 
   -- n chairs that were just made, with the numbers from k on
   abbrev pub new_chairs : DeskId F → ℕ → ℕ → List (Seated A F)
   new_chairs id k zero = []
   new_chairs id k (suc n) = new_chair id k ∷ new_chairs id (suc k) n
 
-  -- the chair has taken the value, whose history is this
+  -- the chair has taken the value once more, and found this history
   abbrev pub holding : Seated A F → List (ℕ × A) → Seated A F
-  holding c log = record c { seen = log; won = true; holds = true }
+  holding c log = record c { seen = log; takings = c.takings ++ log ∷ []; holds = true }
 
   -- the same chair, after more lost tries
   abbrev pub losing : Seated A F → List ℕ → Seated A F

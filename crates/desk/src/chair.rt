@@ -2,6 +2,7 @@
 ghost use Rattle.std.specs.Prelude.{◌≡◌};
 
 use crate::boxed::Boxed;
+use crate::takings::Takings;
 use desk_rule::{Booked, DeskSeat};
 use std::marker::Model;
 use std::snapshot::Snapshot;
@@ -9,11 +10,13 @@ use std::snapshot::Snapshot;
 /// A place at a desk, with a number of its own. A thread needs one to use the desk.
 ///
 /// Contracts see a chair as its desk, its number, what it has seen of the history, what it put, the numbers that its
-/// lost tries read, and whether it has taken and holds the value. A chair that is dropped can't be closed, nor its desk then.
+/// lost tries read, what its takings found, and whether it holds the value. A chair that is dropped can't be closed, nor
+/// its desk then.
 #[derive(Drop)]
 pub struct Chair<T: Booked> {
     pub(crate) number: u32,
     pub(crate) seat: DeskSeat<Boxed<T>>,
+    pub(crate) takings: Takings<Boxed<T>>,
 }
 
 impl<T: Booked> Model for Chair<T> {

@@ -28,11 +28,13 @@ impl<T: Booked> Desk<T> {
         let Chair {
             number: _,
             mut seat,
+            takings: _,
         } = first;
         while let Some(other) = chairs.pop() {
             let Chair {
                 number: _,
                 seat: joined,
+                takings: _,
             } = other;
             take_in(&table.shared, &mut seat, joined);
         }

@@ -7,6 +7,7 @@ ghost use Rattle.desk.specs.Counters.{id_of};
 use crate::boxed::Boxed;
 use crate::chair::Chair;
 use crate::counter::Desk;
+use crate::takings::Takings;
 use desk_rule::{Booked, DeskSeat, DeskShared, make_chair, open_table};
 use std::alloc::Global;
 
@@ -27,7 +28,11 @@ fn seat_all<T: Booked>(
     let mut made = 1;
     while made < chairs {
         let seat = make_chair(shared, &mut first);
-        let Ok(()) = room.push(Chair { number: made, seat }) else {
+        let Ok(()) = room.push(Chair {
+            number: made,
+            seat,
+            takings: Takings::none(),
+        }) else {
             unreachable!()
         };
         made += 1;
@@ -35,6 +40,7 @@ fn seat_all<T: Booked>(
     let Ok(()) = room.push(Chair {
         number: 0,
         seat: first,
+        takings: Takings::none(),
     }) else {
         unreachable!()
     };

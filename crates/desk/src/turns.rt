@@ -25,6 +25,7 @@ impl<T: Booked> Desk<T> {
     {
         match try_once(&self.table.shared, &mut chair.seat, chair.number) {
             Ok(value) => {
+                chair.takings.add(&value);
                 let by = Snapshot::of(&*chair);
                 Ok(Held { value, by })
             }

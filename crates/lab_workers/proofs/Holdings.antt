@@ -1,5 +1,5 @@
 -- What one holding of the scheduler comes to.
-use Rattle.std.proofs.Common.{◌≡◌, ℕ, List, [], ◌++◌, true, sym, ap, subst, ◌∙◌, append-nil}
+use Rattle.std.proofs.Common.{◌≡◌, ℕ, List, [], ◌∷◌, ◌++◌, sym, ap, subst, ◌∙◌, append-nil}
 use mathlib.Core.List.{IsPrefix}
 use Rattle.desk.specs.Seated.{Puts, holding, losing}
 use Rattle.desk.proofs.Afterwards.{grew_held, puts_own}
@@ -49,8 +49,8 @@ module _ (c d e : SchedChair) (lost : List ℕ) (was value now : SchedValue) (wh
   pub put-sees : sched_entries e.seen ≡ now.history
   put-sees = ap (λ (x : SchedChair). sched_entries x.seen) put-so.2 ∙ sched-back now.history
 
-  put-won : e.won ≡ true
-  put-won = ap (λ (x : SchedChair). x.won) put-so.2
+  put-took : e.takings ≡ c.takings ++ booked_acts was.history ∷ []
+  put-took = ap (λ (x : SchedChair). x.takings) put-so.2
 
   pub put-own : e.own ≡ c.own ++ acts
   put-own =
@@ -64,6 +64,7 @@ module _ (c d e : SchedChair) (lost : List ℕ) (was value now : SchedValue) (wh
         prefix_trans c.seen (booked_acts was.history) e.seen begins
         (entries_by c.number acts, sym (put-seen ∙ booked-on was.history c.number acts));
     own = (acts, sym put-own);
+    takings = (booked_acts was.history ∷ [], sym put-took);
   }
 
   pub has-put : (session : Session) → was.session ≡ session → IsSched was → IsPrefix c.seen (booked_acts was.history)
@@ -73,7 +74,7 @@ module _ (c d e : SchedChair) (lost : List ℕ) (was value now : SchedValue) (wh
     later = begins;
     known = knows;
     same = put-same;
-    won = put-won;
+    took = put-took;
     seen = put-seen;
     own = put-own;
   }
@@ -98,6 +99,7 @@ follows-has session found acts c e put = record {
       prefix_trans c.seen (booked_acts found) e.seen put.later
       (entries_by c.number acts, sym (put.seen ∙ booked-on found c.number acts));
   own = (acts, sym put.own);
+  takings = (booked_acts found ∷ [], sym put.took);
 }
 
 -- nothing was put

@@ -31,7 +31,7 @@ use Rattle.lab_workers.proofs.Resting.{sees-more, stands-halted, stands-looked}
 
 pub looks-same : (desk : Opened Session) (c : SchedChair) → IsAt desk c → PutsNothing c c
 looks-same desk c at = record {
-  follows = record { same = (refl, refl, at.1); seen = prefix_same c.seen; own = prefix_same c.own };
+  follows = record { same = (refl, refl, at.1); seen = prefix_same c.seen; own = prefix_same c.own; takings = prefix_same c.takings };
   own = refl;
   knows = λ known. known;
 }

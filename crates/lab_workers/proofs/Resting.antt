@@ -50,7 +50,7 @@ module _ {X : Type 0} where
 pub goes-same : (desks : Desks) (w : WorkerValue) → IsWorkerAt desks w → GoesOn desks w w
 goes-same desks w at = record {
   at = at;
-  later = record { number = refl; seen = prefix_same w.sched.seen; own = prefix_same w.sched.own };
+  later = record { number = refl; seen = prefix_same w.sched.seen; own = prefix_same w.sched.own; takings = prefix_same w.sched.takings };
 }
 
 pub goes-trans : (desks : Desks) (a b c : WorkerValue) → GoesOn desks a b → GoesOn desks b c → GoesOn desks a c
@@ -60,13 +60,14 @@ goes-trans desks a b c first then = record {
     number = then.later.number ∙ first.later.number;
     seen = prefix_trans a.sched.seen b.sched.seen c.sched.seen first.later.seen then.later.seen;
     own = prefix_trans a.sched.own b.sched.own c.sched.own first.later.own then.later.own;
+    takings = prefix_trans a.sched.takings b.sched.takings c.sched.takings first.later.takings then.later.takings;
   };
 }
 
 pub goes-sched : (desks : Desks) (w : WorkerValue) (e : SchedChair) → IsWorkerAt desks w → Follows w.sched e → GoesOn desks w (record w { sched = e })
 goes-sched desks w e at follows = record {
   at = record { sched = follows.same.0 ∙ at.sched; count = at.count; cores = at.cores };
-  later = record { number = refl; seen = follows.seen; own = follows.own };
+  later = record { number = refl; seen = follows.seen; own = follows.own; takings = follows.takings };
 }
 
 pub keeps-same : (session : Session) (w : WorkerValue) → KeepsRest session w w

@@ -1,26 +1,28 @@
 -- A worker whose fields are known, in a round.
-use Rattle.std.proofs.Common.{◌≡◌, ◌≢◌, ℕ, List, [], length, true, false, refl, sym, ap, subst, ◌∙◌, inl, inr}
+use Rattle.std.proofs.Common.{◌≡◌, ◌≢◌, ℕ, ◌<◌, List, [], ◌∷◌, ◌++◌, length, false, refl, sym, ap, subst, ◌∙◌, inl, inr, arith}
 use Rattle.std.specs.Prelude.{◌⊎◌, IsTrue, Option, Some, None, slice_get, slice_set}
-use Rattle.std.proofs.lemmas.List.{length-set}
+use Rattle.std.proofs.lemmas.List.{length-append, length-set}
 use mathlib.Core.List.{IsPrefix}
 use Rattle.desk.specs.Seated.{Opened}
 use Rattle.desk_rule.specs.Histories.{Each}
-use Rattle.desk_rule.proofs.Prefixes.{prefix_same}
+use Rattle.desk_rule.proofs.Prefixes.{prefix_same, prefix_trans}
 use Rattle.rtio_core.specs.declared.data.Config.{Config}
 use Rattle.exp_model.specs.declared.session.Session.{Session}
 use Rattle.sched_state.specs.declared.entry.JobName.{JobName}
 use Rattle.sched_state.specs.Lawful.{halted_by, state_after}
 use Rattle.sched_state.specs.Picks.{is_over}
+use Rattle.sched_core.specs.Booked.{booked_acts}
 use Rattle.stage_work.proofs.Cores.{set-at}
 use Rattle.desk_kernels.specs.Chairs.{CoreChair, IsAt, IsSameChair, KnowsItsOwn}
 use Rattle.worker_desks.specs.declared.desks.Desks.{Desks}
 use Rattle.lab_workers.specs.declared.tasks.Turn.{Turn}
+use Rattle.lab_workers.specs.declared.tasks.Turn.TheVariants as turn
 use Rattle.lab_workers.specs.declared.worker.WorkEnd.{WorkEnd}
 use Rattle.lab_workers.specs.declared.worker.WorkEnd.TheVariants.{Finished, Memory, Stopped}
 use Rattle.lab_workers.specs.Idling.{AreAt, HaveWaited}
 use Rattle.lab_workers.specs.Rounds.{ComesTo, GoesOn, IsEnd, IsEndIf, KeepsRest}
 use Rattle.lab_workers.specs.Stepping.{UsesCore}
-use Rattle.lab_workers.specs.Turns.{Follows, HasTurned, PutsQuietly}
+use Rattle.lab_workers.specs.Turns.{Follows, HasAsked, HasTurned, PutsQuietly}
 use Rattle.lab_workers.specs.Workers.{IsAtRest, IsFree, IsWorkerAt, SchedChair, StandsWith, WorkerValue, owed, sched_entries}
 use Rattle.lab_workers.proofs.Resting.{comes-trans, each-get, each-set, goes-sched, goes-trans, keeps-quiet}
 use Rattle.lab_workers.proofs.Waiting.{goes-waited, keeps-waited}
@@ -91,7 +93,7 @@ module _ (desks : Desks) (inside w : WorkerValue) (is : inside ≡ w) (at : IsWo
           count = length-set inside.cores pipeline now ∙ at-inside.count;
           cores = λ other desk chair there set. which other desk chair there (set-at inside.cores pipeline other now chair set);
         };
-        later = record { number = refl; seen = prefix_same inside.sched.seen; own = prefix_same inside.sched.own };
+        later = record { number = refl; seen = prefix_same inside.sched.seen; own = prefix_same inside.sched.own; takings = prefix_same inside.sched.takings };
       })
     where
       which : (other : ℕ) (desk : Opened Config) (chair : CoreChair) → slice_get desks.cores.items other ≡ Some desk
@@ -130,22 +132,50 @@ uses-core desks inside w is pipeline Changes desk was now at found number same l
 
 -- ---- an end
 
-module _ (session : Session) (chair : SchedChair) (end : WorkEnd) (ended : IsEnd session chair end) where
-  pub end-finished : end ≡ Finished → (halted_by (sched_entries chair.seen) ≡ None) × IsTrue (is_over (state_after session (sched_entries chair.seen)))
-  end-finished is = let its = subst (IsEnd session chair) is ended in (its.1, its.2)
+-- a taking more
+pub taken-since : {X : Type 0} (before mid now : List X) (x : X) → IsPrefix before mid → now ≡ mid ++ x ∷ [] → length before < length now
+taken-since before mid now x later is =
+    omega (arith, ap length is, length-append mid (x ∷ []), ap length later.1, length-append before later.0)
 
-  pub end-stopped : (by : ℕ) → end ≡ Stopped by → halted_by (sched_entries chair.seen) ≡ Some by
-  end-stopped by is = (subst (IsEnd session chair) is ended).1
+-- the answer that the chair was given now
+pub asks-here : (session : Session) (t : Turn) (was before now : SchedChair) → before ≡ was → HasTurned session t before now → HasAsked session t was now
+asks-here session t was before now is turned =
+    let T : SchedChair → Type 0 = λ c. IsPrefix c.takings before.takings in
+    record { before = before; since = subst T is (prefix_same before.takings); turned = turned }
+
+asked-since : (session : Session) (t : Turn) (was mid now : SchedChair) → IsPrefix was.takings mid.takings → HasAsked session t mid now → HasAsked session t was now
+asked-since session t was mid now later asked = record {
+  before = asked.before;
+  since = prefix_trans was.takings mid.takings asked.before.takings later asked.since;
+  turned = asked.turned;
+}
+
+pub end-since : (session : Session) (was mid now : SchedChair) (end : WorkEnd) → IsPrefix was.takings mid.takings → IsEnd session mid now end → IsEnd session was now end
+end-since session was mid now Finished later ended = asked-since session turn.Over was mid now later ended
+end-since session was mid now (Stopped by) later ended = asked-since session (turn.Stopped by) was mid now later ended
+end-since session was mid now Memory later ended = absurd ended
+
+asked-taken : (session : Session) (t : Turn) (was now : SchedChair) → HasAsked session t was now → length was.takings < length now.takings
+asked-taken session t was now asked =
+    let quietly = asked.turned.quietly in
+    taken-since was.takings asked.before.takings now.takings (booked_acts quietly.found) asked.since quietly.put.took
+
+-- it has taken the scheduler
+pub end-taken : (session : Session) (was now : SchedChair) (end : WorkEnd) → IsEnd session was now end → length was.takings < length now.takings
+end-taken session was now Finished ended = asked-taken session turn.Over was now ended
+end-taken session was now (Stopped by) ended = asked-taken session (turn.Stopped by) was now ended
+end-taken session was now Memory ended = absurd ended
+
+module _ (session : Session) (was now : SchedChair) (end : WorkEnd) (ended : IsEnd session was now end) where
+  pub end-finished : end ≡ Finished → (halted_by (sched_entries now.seen) ≡ None) × IsTrue (is_over (state_after session (sched_entries now.seen)))
+  end-finished is = (subst (IsEnd session was now) is ended).turned.turn_is
+
+  pub end-stopped : (by : ℕ) → end ≡ Stopped by → halted_by (sched_entries now.seen) ≡ Some by
+  end-stopped by is = (subst (IsEnd session was now) is ended).turned.turn_is
 
   pub end-no-memory : end ≡ Memory → ⊥
-  end-no-memory is = subst (IsEnd session chair) is ended
+  end-no-memory is = subst (IsEnd session was now) is ended
 
--- it has asked the scheduler
-pub end-asked : (session : Session) (chair : SchedChair) (end : WorkEnd) → IsEnd session chair end → chair.won ≡ true
-end-asked session chair Finished ended = ended.0
-end-asked session chair (Stopped by) ended = ended.0
-end-asked session chair Memory ended = absurd ended
-
-pub ends-as : (session : Session) (chair : SchedChair) (found : Option WorkEnd) (end : WorkEnd) → found ≡ Some end → IsEndIf session chair found
-    → IsEnd session chair end
-ends-as session chair found end is ended = subst (IsEndIf session chair) is ended
+pub ends-as : (session : Session) (was now : SchedChair) (found : Option WorkEnd) (end : WorkEnd) → found ≡ Some end → IsEndIf session was now found
+    → IsEnd session was now end
+ends-as session was now found end is ended = subst (IsEndIf session was now) is ended

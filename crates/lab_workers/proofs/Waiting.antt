@@ -168,7 +168,7 @@ module _ (w : WorkerValue) (cores : List CoreChair) (all : HaveWaited w.cores co
       cores = λ pipeline desk chair is found.
           let was = all.each pipeline chair found in was.2.same.0 ∙ at.cores pipeline desk was.0 is was.1;
     };
-    later = record { number = refl; seen = prefix_same w.sched.seen; own = prefix_same w.sched.own };
+    later = record { number = refl; seen = prefix_same w.sched.seen; own = prefix_same w.sched.own; takings = prefix_same w.sched.takings };
   }
 
   tied-waited : (session : Session) (pipeline : ℕ) (was now : CoreChair) → HasWaited was now → IsTiedAt session w pipeline was

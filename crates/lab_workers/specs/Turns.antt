@@ -1,5 +1,5 @@
 -- What one holding of the scheduler leaves to a chair.
-use Rattle.std.specs.Prelude.{◌≡◌, ℕ, List, [], ◌∷◌, ◌++◌, true, filter, map, Option, Some, None}
+use Rattle.std.specs.Prelude.{◌≡◌, ℕ, List, [], ◌∷◌, ◌++◌, filter, map, Option, Some, None}
 use mathlib.Core.List.{IsPrefix}
 use Rattle.desk_rule.specs.Histories.{Each, acts_of}
 use Rattle.exp_model.specs.declared.session.Session.{Session}
@@ -26,20 +26,21 @@ goes_on history who acts = history ++ map (entry_of who) acts
 abbrev pub adds : (who : ℕ) → List SchedAct → SchedValue → SchedValue
 adds who acts sched = record sched { history = goes_on sched.history who acts }
 
--- the chair is the same, and has seen and put more
+-- the chair is the same, and has seen, put and taken more
 pub record Follows (old new : SchedChair) : Type 0 where
   pub same : IsSameChair old new
   pub seen : IsPrefix old.seen new.seen
   pub own : IsPrefix old.own new.own
+  pub takings : IsPrefix old.takings new.takings
 
--- The chair found a lawful history that goes on from what it had seen, with just the acts
--- of its own that it had put. Behind that it put these acts, and has seen nothing further
+-- The chair took the scheduler once, and found a lawful history that goes on from what it had seen, with just
+-- the acts of its own that it had put. Behind that it put these acts, and has seen nothing further
 pub record HasPut (session : Session) (found : List SchedEntry) (acts : List SchedAct) (old new : SchedChair) : Type 0 where
   pub lawful : IsLawful session found
   pub later : IsPrefix old.seen (booked_acts found)
   pub known : acts_of old.number (booked_acts found) ≡ old.own
   pub same : IsSameChair old new
-  pub won : new.won ≡ true
+  pub took : new.takings ≡ old.takings ++ booked_acts found ∷ []
   pub seen : new.seen ≡ booked_acts (goes_on found old.number acts)
   pub own : new.own ≡ old.own ++ acts
 
@@ -92,6 +93,13 @@ pub record HasTurned (session : Session) (turn : Turn) (old new : SchedChair) : 
   pub owes : owed new.own ≡ owed old.own ++ job_in turn
   pub lawful : IsLawful session (sched_entries new.seen)
   pub turn_is : IsTurnIn session (sched_entries new.seen) new.number turn
+
+-- The last time that the chair took the scheduler was after it was as the old one: it
+-- asked for a job then, and this was the answer
+pub record HasAsked (session : Session) (turn : Turn) (old new : SchedChair) : Type 0 where
+  pub before : SchedChair
+  pub since : IsPrefix old.takings before.takings
+  pub turned : HasTurned session turn before new
 
 -- the chair took this job last, in a lawful history, and knows its own acts
 pub record HasTaken (session : Session) (job : JobName) (chair : SchedChair) : Type 0 where

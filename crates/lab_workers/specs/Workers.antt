@@ -79,11 +79,12 @@ pub record StandsWith (session : Session) (jobs : List JobName) (w : WorkerValue
 abbrev pub IsAtRest : Session → WorkerValue → Type 0
 IsAtRest session w = StandsWith session [] w
 
--- it is the same worker, and has seen and put more at the scheduler's desk
+-- it is the same worker, and has seen, put and taken more at the scheduler's desk
 pub record IsLater (old new : WorkerValue) : Type 0 where
   pub number : new.number ≡ old.number
   pub seen : IsPrefix old.sched.seen new.sched.seen
   pub own : IsPrefix old.sched.own new.sched.own
+  pub takings : IsPrefix old.sched.takings new.sched.takings
 
 abbrev pub is_halt : SchedAct → Bool
 is_halt Halted = true

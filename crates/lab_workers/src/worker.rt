@@ -3,11 +3,12 @@
 mod rounds;
 mod stepping;
 
-ghost use Rattle.std.specs.Prelude.{◌≡◌, ◌≢◌, ℕ, true, None, Some, IsSome, IsTrue};
+ghost use Rattle.std.specs.Prelude.{◌≡◌, ◌≢◌, ◌<◌, ℕ, length, None, Some, IsSome, IsTrue};
 ghost use Rattle.desk_rule.specs.Histories.{Each};
 ghost use Rattle.sched_state.specs.Lawful.{halted_by, state_after};
 ghost use Rattle.sched_state.specs.Picks.{is_over};
 ghost use Rattle.lab_workers.specs.Leaving.{IsLeft};
+ghost use Rattle.lab_workers.specs.Rounds.{IsEnd};
 ghost use Rattle.lab_workers.specs.Workers.{AreDesksOf, HaltsOnce, halts, IsAtRest, IsFree, IsLater, IsWorkerAt, sched_entries};
 
 use crate::halting::halt;
@@ -91,11 +92,14 @@ impl Worker {
     ) -> WorkEnd
         requires desks { AreDesksOf desks.now }
         requires at { IsWorkerAt desks.now self.old }
-        // It is the same worker at the same desks, and has seen and put more at the scheduler's.
+        // It is the same worker at the same desks, and has seen, put and taken more at the scheduler's.
         ensures at { IsWorkerAt desks.now self.new }
         ensures later { IsLater self.old self.new }
-        // It has asked the scheduler.
-        ensures asked { self.new.sched.won ≡ true }
+        // It has taken the scheduler in this call.
+        ensures taken { length self.old.sched.takings < length self.new.sched.takings }
+        // Unless memory ran out it ends as the scheduler answered it in this call: the last time that it took the scheduler it asked for a
+        // job, and was told that nothing is left to do, or that the chair named has halted the scheduler.
+        ensures asked { result ≢ WorkEnd.Memory → IsEnd desks.now.session self.old.sched self.new.sched result }
         // Where it had reported each job that it took, had done on each core just what it reported, and no session of its own was open, this
         // is so again, unless memory ran out.
         ensures rest { result ≢ WorkEnd.Memory → IsAtRest desks.now.session self.old → IsAtRest desks.now.session self.new }

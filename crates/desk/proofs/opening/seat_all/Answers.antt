@@ -32,7 +32,7 @@ loop-made-preserved g c =
     let room = pushed.capacity in (
       split.first.1 ∙ ap (λ m. (counted m.0, m.1)) i.0,
       split.first.0 ∙ i.1,
-      one_more _ _ c.loop-made.made _ _ _ _ (omega arith) i.2 (split.chair.0 ∙ i.1) (ap (λ m. m.0) split.chair.1 ∙ ap (λ m. kinds.new_chair m.0) i.0) pushed.items,
+      one_more _ _ c.loop-made.made _ _ _ _ _ (omega arith) i.2 (split.chair.0 ∙ i.1) c.none.ensures (ap (λ m. m.0) split.chair.1 ∙ ap (λ m. kinds.new_chair m.0) i.0) pushed.items,
       omega arith,
       omega arith,
       omega arith,
@@ -53,4 +53,4 @@ returns g c =
     let lent = c.as_mut_slice.ensures in
     let whole = lent.value ∙ pushed.items in
     let len = c.push-2.new.self.ok.0 in
-    turned_round _ _ _ _ _ pushed.items (rw (← lent.value) c.rotate_right.ensures.after) (omega arith) ∙ first_in_front _ _ c.loop-made.made _ _ _ _ (omega arith) (omega arith) i.2 i.1 (ap (λ m. m.0) i.0)
+    turned_round _ _ _ _ _ pushed.items (rw (← lent.value) c.rotate_right.ensures.after) (omega arith) ∙ first_in_front _ _ c.loop-made.made _ _ _ _ _ (omega arith) (omega arith) i.2 i.1 c.none-2.ensures (ap (λ m. m.0) i.0)

@@ -3,7 +3,7 @@ use denote.Param.{param}
 use denote.Param.Send.{sendable}
 use Rattle.std.specs.Prelude.{codes}
 use Rattle.std.proofs.Crossing.{crosses}
-use Rattle.desk.proofs.chair.Chair.TheSendSync as Chair
+use Rattle.desk.proofs.Sending.{chair_send}
 use Rattle.rtio_core.proofs.one_core.Core.TheSendSync as Core
 use Rattle.sched_core.proofs.sched.Sched.TheSendSync as Sched
 use Rattle.lab_workers.proofs.worker.WorkEnd.TheSendSync as WorkEnd
@@ -13,7 +13,7 @@ use Rattle.lab_crew.proofs.threads.work_in_threads.Goals as goal
 
 -- the chairs may be sent where the scheduler may
 pub for_each_mut-requires-send-T : goal.for_each_mut-requires-send-T
-for_each_mut-requires-send-T g c κs within = search (kit_send, Sched.the_send, Chair.the_send, Core.the_send, WorkEnd.the_send, crosses, sendable) depth 30 fits 20000
+for_each_mut-requires-send-T g c κs within = search (kit_send, Sched.the_send, chair_send, Core.the_send, WorkEnd.the_send, crosses, sendable) depth 30 fits 20000
 
 -- the desks may be shared where the scheduler may be sent
 pub for_each_mut-requires-sync-F : goal.for_each_mut-requires-sync-F

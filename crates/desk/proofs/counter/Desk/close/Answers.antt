@@ -1,5 +1,5 @@
 use Rattle.std.proofs.Common.{◌<◌, ◌≤◌, [], ◌∷◌, ◌++◌, sym, ap, ◌∙◌, subst, arith, append-nil}
-use Rattle.desk_rule.specs.Steps.{first_made}
+use Rattle.desk_rule.specs.Steps.{first_made, first_won}
 use Rattle.desk.proofs.Seats.{carried_none}
 use Rattle.desk.proofs.Gathered.{Gathered, gathered_one, gathered_more, gathered_all, number_there, of_last, moved_one, Ending, ending}
 use Rattle.desk.proofs.counter.Desk.close.Given.{Over}
@@ -12,7 +12,7 @@ loop-other-init g c =
     let free = ap (λ d. d.holds) c.first.view_is ∙ of.1 in (
       c.in-Some.first ∷ [],
       sym c.in-Some.ensures.items,
-      subst (λ d. Gathered c.first.inside.seat.me.0.records (d ∷ [])) c.first.view_is (gathered_one _ _ (first_made c.first.inside.seat.me.0.records) c.first.invariant.0),
+      subst (λ d. Gathered c.first.inside.seat.me.0.records (d ∷ [])) c.first.view_is (gathered_one _ _ (first_won c.first.inside.seat.me.0.records) (first_made c.first.inside.seat.me.0.records) c.first.invariant.0 c.first.invariant.2),
       free,
       carried_none _ _ free c.first.invariant.1,
       ap (λ d. d.desk.table) c.first.view_is ∙ (ap (λ d. d.table) of.0 ∙ sym (ap (λ d. d.id.table) c.self.view_is)),
@@ -38,7 +38,7 @@ loop-other-preserved g c =
     let i = c.loop-other.invariant in
     let joined = c.take_in.ensures in
     let more = subst (λ d. Gathered (c.loop-other.seat.me.0.records ++ c.other.inside.seat.me.0.records) (d ∷ i.0)) c.other.view_is
-    (gathered_more _ _ _ _ (first_made c.other.inside.seat.me.0.records) c.other.invariant.0 i.2) in (
+    (gathered_more _ _ _ _ (first_won c.other.inside.seat.me.0.records) (first_made c.other.inside.seat.me.0.records) c.other.invariant.0 c.other.invariant.2 i.2) in (
       c.in-Some-pop.other ∷ i.0,
       moved_one _ _ i.0 _ _ i.1 c.in-Some-pop.ensures.items,
       subst (λ m. Gathered m.0.records (c.in-Some-pop.other ∷ i.0)) (sym joined.1) more,

@@ -7,11 +7,11 @@ use Rattle.lab_workers.specs.Idling.{AreAt, HaveWaited}
 use Rattle.lab_workers.specs.Leaving.{IsLeft}
 use Rattle.lab_workers.specs.Rounds.{GoesOn, KeepsRest}
 use Rattle.lab_workers.specs.Tasks.{job_of}
-use Rattle.lab_workers.specs.Workers.{IsAtRest, IsFree}
+use Rattle.lab_workers.specs.Workers.{IsAtRest, IsFree, WorkerValue}
 use Rattle.stage_work.proofs.Done.{on-err}
 use Rattle.lab_workers.proofs.Leaving.{comes-left, rests-left}
 use Rattle.lab_workers.proofs.Resting.{comes-from, comes-trans, goes-trans}
-use Rattle.lab_workers.proofs.Rounds.{cores-at, cores-count, free-follows, goes-idle, goes-turn, keeps-idle, keeps-turn, sched-at, turned-as}
+use Rattle.lab_workers.proofs.Rounds.{asks-here, cores-at, cores-count, free-follows, goes-idle, goes-turn, keeps-idle, keeps-turn, sched-at, turned-as}
 use Rattle.lab_workers.proofs.Turning.{taken-turn, turned-owes}
 use Rattle.lab_workers.proofs.Waiting.{free-waited}
 use Rattle.lab_workers.proofs.worker.Worker.round.Goals as goal
@@ -160,7 +160,9 @@ returns-in-Over-clause-round g c =
       keeps =
           keeps-turn c.args.desks.now _ c.args.self.now c.self.view_is c.requires.at c.next_turn.new.chair turned.quietly [] []
           (turned-owes c.args.desks.now.session turn.Over c.self.inside.sched c.next_turn.new.chair turned);
-      ends = (turned.quietly.put.won, turned.turn_is.0, turned.turn_is.1);
+      ends =
+          asks-here c.args.desks.now.session turn.Over c.args.self.now.sched c.self.inside.sched c.next_turn.new.chair
+          (ap (λ (v : WorkerValue). v.sched) c.self.view_is) turned;
     }
 
 pub returns-in-Stopped-clause-goes : goal.returns-in-Stopped-clause-goes
@@ -175,5 +177,7 @@ returns-in-Stopped-clause-round g c =
       keeps =
           keeps-turn c.args.desks.now _ c.args.self.now c.self.view_is c.requires.at c.next_turn.new.chair turned.quietly [] []
           (turned-owes c.args.desks.now.session (turn.Stopped c.in-Stopped.by) c.self.inside.sched c.next_turn.new.chair turned);
-      ends = (turned.quietly.put.won, turned.turn_is);
+      ends =
+          asks-here c.args.desks.now.session (turn.Stopped c.in-Stopped.by) c.args.self.now.sched c.self.inside.sched c.next_turn.new.chair
+          (ap (λ (v : WorkerValue). v.sched) c.self.view_is) turned;
     }

@@ -1,10 +1,11 @@
-use Rattle.std.proofs.Common.{refl, sym, ap, subst, ◌∙◌}
+use Rattle.std.proofs.Common.{[], ◌∷◌, ◌++◌, refl, sym, ap, subst, ◌∙◌}
+use Rattle.sched_core.specs.Booked.{booked_acts}
 use Rattle.lab_workers.specs.Leaving.{IsLeft}
 use Rattle.lab_workers.specs.Workers.{WorkerValue, halts}
 use Rattle.lab_workers.proofs.Holdings.{follows-has}
 use Rattle.lab_workers.proofs.Leaving.{halts-once, left-halted}
 use Rattle.lab_workers.proofs.Resting.{goes-trans}
-use Rattle.lab_workers.proofs.Rounds.{end-asked, end-finished, end-no-memory, end-stopped, free-follows, goes-turn, sched-at}
+use Rattle.lab_workers.proofs.Rounds.{end-finished, end-no-memory, end-stopped, end-taken, free-follows, goes-turn, sched-at, taken-since}
 use Rattle.lab_workers.proofs.worker.Worker.work.Goals as goal
 
 pub halt-requires-clause-at : goal.halt-requires-clause-at
@@ -24,25 +25,28 @@ pub returns-in-Ok-clause-later : goal.returns-in-Ok-clause-later
 returns-in-Ok-clause-later g c = c.in-Ok.ensures.goes.later
 
 pub returns-in-Ok-clause-asked : goal.returns-in-Ok-clause-asked
-returns-in-Ok-clause-asked g c = end-asked c.args.desks.now.session c.work_on.new.self.sched c.in-Ok.end c.in-Ok.ensures.worked.ends
+returns-in-Ok-clause-asked g c = λ other. c.in-Ok.ensures.worked.ends
+
+pub returns-in-Ok-clause-taken : goal.returns-in-Ok-clause-taken
+returns-in-Ok-clause-taken g c = end-taken c.args.desks.now.session c.args.self.now.sched c.work_on.new.self.sched c.in-Ok.end c.in-Ok.ensures.worked.ends
 
 pub returns-in-Ok-clause-rest : goal.returns-in-Ok-clause-rest
 returns-in-Ok-clause-rest g c = λ other. c.in-Ok.ensures.worked.keeps.rest
 
 pub returns-in-Ok-clause-left : goal.returns-in-Ok-clause-left
-returns-in-Ok-clause-left g c = λ is. absurd (end-no-memory c.args.desks.now.session c.work_on.new.self.sched c.in-Ok.end c.in-Ok.ensures.worked.ends is)
+returns-in-Ok-clause-left g c = λ is. absurd (end-no-memory c.args.desks.now.session c.args.self.now.sched c.work_on.new.self.sched c.in-Ok.end c.in-Ok.ensures.worked.ends is)
 
 pub returns-in-Ok-clause-halted : goal.returns-in-Ok-clause-halted
-returns-in-Ok-clause-halted g c = λ is. absurd (end-no-memory c.args.desks.now.session c.work_on.new.self.sched c.in-Ok.end c.in-Ok.ensures.worked.ends is)
+returns-in-Ok-clause-halted g c = λ is. absurd (end-no-memory c.args.desks.now.session c.args.self.now.sched c.work_on.new.self.sched c.in-Ok.end c.in-Ok.ensures.worked.ends is)
 
 pub returns-in-Ok-clause-finished : goal.returns-in-Ok-clause-finished
-returns-in-Ok-clause-finished g c = end-finished c.args.desks.now.session c.work_on.new.self.sched c.in-Ok.end c.in-Ok.ensures.worked.ends
+returns-in-Ok-clause-finished g c = end-finished c.args.desks.now.session c.args.self.now.sched c.work_on.new.self.sched c.in-Ok.end c.in-Ok.ensures.worked.ends
 
 pub returns-in-Ok-clause-stopped : goal.returns-in-Ok-clause-stopped
-returns-in-Ok-clause-stopped g c = end-stopped c.args.desks.now.session c.work_on.new.self.sched c.in-Ok.end c.in-Ok.ensures.worked.ends
+returns-in-Ok-clause-stopped g c = end-stopped c.args.desks.now.session c.args.self.now.sched c.work_on.new.self.sched c.in-Ok.end c.in-Ok.ensures.worked.ends
 
 pub returns-in-Ok-clause-memory : goal.returns-in-Ok-clause-memory
-returns-in-Ok-clause-memory g c = λ is. absurd (end-no-memory c.args.desks.now.session c.work_on.new.self.sched c.in-Ok.end c.in-Ok.ensures.worked.ends is)
+returns-in-Ok-clause-memory g c = λ is. absurd (end-no-memory c.args.desks.now.session c.args.self.now.sched c.work_on.new.self.sched c.in-Ok.end c.in-Ok.ensures.worked.ends is)
 
 pub returns-in-Ok-clause-halts : goal.returns-in-Ok-clause-halts
 returns-in-Ok-clause-halts g c = λ other. c.in-Ok.ensures.worked.keeps.halts_are
@@ -57,7 +61,14 @@ returns-in-Err-clause-later g c =
     (goes-turn c.args.desks.now _ c.work_on.new.self c.self.view_is c.in-Err.ensures.goes.at c.halt.new.chair (follows-has c.args.desks.now.session c.halt.ensures.halts.0 _ c.self.inside.sched c.halt.new.chair c.halt.ensures.halts.1))).later
 
 pub returns-in-Err-clause-asked : goal.returns-in-Err-clause-asked
-returns-in-Err-clause-asked g c = c.halt.ensures.halts.1.won
+returns-in-Err-clause-asked g c = λ other. absurd (other refl)
+
+pub returns-in-Err-clause-taken : goal.returns-in-Err-clause-taken
+returns-in-Err-clause-taken g c =
+    taken-since c.args.self.now.sched.takings c.work_on.new.self.sched.takings c.halt.new.chair.takings (booked_acts c.halt.ensures.halts.0)
+    c.in-Err.ensures.goes.later.takings
+    (c.halt.ensures.halts.1.took
+    ∙ ap (λ (v : WorkerValue). v.sched.takings ++ booked_acts c.halt.ensures.halts.0 ∷ []) c.self.view_is)
 
 pub returns-in-Err-clause-rest : goal.returns-in-Err-clause-rest
 returns-in-Err-clause-rest g c = λ other. absurd (other refl)

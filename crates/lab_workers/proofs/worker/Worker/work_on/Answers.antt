@@ -3,7 +3,7 @@ use Rattle.lab_workers.specs.Leaving.{IsLeft}
 use Rattle.lab_workers.specs.Workers.{IsAtRest}
 use Rattle.stage_work.proofs.Done.{on-err}
 use Rattle.lab_workers.proofs.Resting.{comes-trans, goes-same, goes-trans, keeps-same}
-use Rattle.lab_workers.proofs.Rounds.{ends-as}
+use Rattle.lab_workers.proofs.Rounds.{end-since, ends-as}
 use Rattle.lab_workers.proofs.worker.Worker.work_on.Goals as goal
 
 pub round-requires-clause-at : goal.round-requires-clause-at
@@ -25,7 +25,9 @@ returns-in-Some-2-clause-goes g c =
 pub returns-in-Some-2-clause-worked : goal.returns-in-Some-2-clause-worked
 returns-in-Some-2-clause-worked g c = record {
   keeps = comes-trans c.args.desks.now.session [] [] (IsAtRest c.args.desks.now.session) c.args.self.now c.loop.self c.round.new.self c.loop.invariant.2 c.in_ok-end.ensures.round.keeps;
-  ends = ends-as c.args.desks.now.session c.round.new.self.sched c.in_ok-end.field-0 c.in-Some-2.end c.in-Some-2.is c.in_ok-end.ensures.round.ends;
+  ends =
+      end-since c.args.desks.now.session c.args.self.now.sched c.loop.self.sched c.round.new.self.sched c.in-Some-2.end c.loop.invariant.1.later.takings
+      (ends-as c.args.desks.now.session c.loop.self.sched c.round.new.self.sched c.in_ok-end.field-0 c.in-Some-2.end c.in-Some-2.is c.in_ok-end.ensures.round.ends);
 }
 
 pub loop-init : goal.loop-init
