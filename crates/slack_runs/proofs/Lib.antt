@@ -1,6 +1,5 @@
 mod Arguments
 mod Entered
 mod Handled
-mod Known
 mod Operated
 mod Turning

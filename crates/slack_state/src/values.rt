@@ -3,6 +3,7 @@
 ghost use Rattle.std.specs.Prelude.{◌≡◌, Some, is_some, true};
 ghost use Rattle.slack_meaning.specs.Expressions.{are_numbers, held_by, with_held, span_in, spans_in, place_in, with_item};
 
+use crate::names::is_same;
 use crate::spans::{exactly, is_number};
 use slack_meaning::Span;
 use std::marker::Model;
@@ -49,7 +50,7 @@ impl Variable {
     fn is_named(&self, name: &[u8]) -> bool
         ensures { result ≡ bytes_eq self.now.0 name.now }
     {
-        self.name.as_slice() == name
+        is_same(self.name.as_slice(), name)
     }
 
     // The number that it holds, 0 for an array.

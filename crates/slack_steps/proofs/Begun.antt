@@ -1,7 +1,8 @@
 -- The values of names when a function begins, name by name.
-use Rattle.std.proofs.Common.{◌≡◌, ℕ, zero, suc, ◌+◌, List, [], ◌∷◌, ◌++◌, Option, Some, drop, refl, sym, ap, ◌∙◌, add-one, append_assoc}
-use Rattle.std.specs.Prelude.{slice_get}
+use Rattle.std.proofs.Common.{◌≡◌, ℕ, zero, suc, ◌+◌, List, [], ◌∷◌, ◌++◌, Option, Some, drop, refl, sym, ap, ◌∙◌, add-one, append_assoc, if◌then◌else◌}
+use Rattle.std.specs.Prelude.{slice_get, bytes_eq}
 use Rattle.kern_syntax.specs.Tree.{Bytes}
+use Rattle.kern_calls.specs.Calls.{look_up}
 use Rattle.kern_calls.specs.declared.types.ValueType.{ValueType}
 use Rattle.kern_calls.specs.Types.{Names}
 use Rattle.meaning_steps.proofs.Begun.{name_first}
@@ -33,3 +34,7 @@ value_more names args place values after x t arg at before is put =
     ∙ sym (append_assoc values ((x, first_value t (slice_get args place)) ∷ []) rest)
     ∙ ap (λ a. (values ++ (x, first_value t a) ∷ []) ++ rest) (sym is)
     ∙ ap (λ l. l ++ rest) (sym put)
+
+-- what a name stands for among the names from a place on
+pub looked_up : (names : Names) (place : ℕ) (x : Bytes) (t : ValueType) (name : Bytes) (whole : Option ValueType) → slice_get names place ≡ Some (x, t) → whole ≡ look_up (drop place names) name → whole ≡ (if bytes_eq name x then Some t else look_up (drop (place + 1) names) name)
+looked_up names place x t name whole at so = so ∙ ap (λ l. look_up l name) (name_first names place (x, t) at)

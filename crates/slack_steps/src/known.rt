@@ -13,6 +13,7 @@ ghost use Rattle.meaning_steps.specs.Runnable.{IsRunnable};
 ghost use Rattle.slack_meaning.specs.Actions.{State as Run};
 ghost use Rattle.slack_steps.specs.Known.{IsKnownAs, Tells};
 
+use crate::kinds::begins_long;
 use crate::operating::plain_result;
 use kern_calls::ValueType;
 use kern_names::{Scope, type_of};
@@ -164,6 +165,8 @@ fn kind_of(scope: &Scope<'_>, e: &Expr, is_int64: bool) -> ValueType
         result ≡ Y.type_of (scope_of scope.now) (expression_of e.now) }
 {
     if is_int64 {
+        ValueType::Int64
+    } else if begins_long(scope, e) {
         ValueType::Int64
     } else {
         type_of(scope, e)

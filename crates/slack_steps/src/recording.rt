@@ -1,6 +1,6 @@
 // The end of a record block.
 
-ghost use Rattle.std.specs.Prelude.{◌≡◌, ⊤};
+ghost use Rattle.std.specs.Prelude.{◌≡◌, ⊤, OnErr};
 ghost use Rattle.slack_meaning.specs.Actions.{Completion, State as Run, take_unit};
 ghost use Rattle.slack_meaning.specs.Statements.{end_recording, recording_in, save_after};
 ghost use Rattle.slack_state.specs.Does.{Does};
@@ -23,8 +23,8 @@ fn save(alloc: Global, state: &mut State, name: Name, before: Recorder) -> Resul
     state.save(name, SpanRecording { events, length })
 }
 
-/// The end of a record block whose body has run: what it collected is saved, and nothing where it ended early. The cursor
-/// and what was set aside are back in any case.
+/// The end of a record block whose body has run: what it collected is saved, and nothing where it ended early, which is then
+/// how the block ends. The cursor and what was set aside are back in any case.
 pub fn end_recording(
     alloc: Global,
     state: &mut State,
@@ -32,8 +32,9 @@ pub fn end_recording(
     before: Recorder,
     ran: Result<(), Early>,
 ) -> Result<(), Early>
-    ensures { (s : Run) (m : Completion ⊤) → before ≡ (s.cursor, s.collected) →
+    ensures does { (s : Run) (m : Completion ⊤) → before ≡ (s.cursor, s.collected) →
         Does ran state.old m → Does result state.new (end_recording name s m) }
+    ensures ended { OnErr ran (result ≡ ran) }
 {
     match ran {
         Ok(()) => save(alloc, state, name, before),

@@ -35,7 +35,7 @@ use Rattle.slack_runs.specs.Values.{first_argument}
 use Rattle.slack_runs.proofs.Arguments.{argument_read, argument_ended}
 use Rattle.slack_runs.proofs.Entered.{call_entered, left_function, room_left}
 use Rattle.slack_runs.proofs.Handled.{handled, unhandled}
-use Rattle.slack_runs.proofs.Known.{if_known}
+use Rattle.slack_steps.proofs.Taken.{if_known}
 use Rattle.slack_runs.proofs.Operated.{binary_then, sum_then}
 use Rattle.slack_runs.proofs.Turning.{for_here, while_here, while_over, while_stopped}
 use Rattle.slack_runs.proofs.+runs.Goals as goal
