@@ -2,11 +2,17 @@
 """Counts host instructions under callgrind, which no other load disturbs, and prints each figure beside its aim and beside the
 last one that docs/SPEED.md keeps.
 
-It runs the processor's loop, `check` on a text of 8,099 statements and on one of 1 MiB, and outputs through a core. Needs
-valgrind (without it nothing is counted), and crates/cpu_bench, crates/core_bench and crates/artiq_sim built (`rt run` in the
-folder of each). Each figure is of whole runs, less a run without the work.
+It runs the processor's loop, `check` on a text of 8,099 statements and on one of 1 MiB, and outputs through a core: each of these
+figures is of whole runs, less a run without the work. Then come whole runs of `artiq_sim`, in millions of host instructions, and
+the memory of one of them. Needs valgrind (without it nothing is counted), and crates/cpu_bench, crates/core_bench and
+crates/artiq_sim built (`rt run` in the folder of each).
+
+    python3 bench/instructions.py [--program PATH]
+
+PATH is the built artiq_sim, else that of crates/artiq_sim.
 """
 
+import argparse
 import os
 import re
 import shutil
@@ -15,6 +21,8 @@ import sys
 import tempfile
 
 from kernel_texts import expressions_text
+from kernels import arithmetic
+from straight_outputs import outputs
 from timing import PROGRAM, ROOT
 
 CPU = os.path.join(ROOT, "crates", "cpu_bench", "out", "cpu_bench")
@@ -24,6 +32,16 @@ TURNS, TURN = 100_000, 17
 STATEMENTS = 8_099
 FEW, MANY = 25_000, 50_000
 DISTANCE = 10
+ONE_DELAY = "def main():\n    delay_mu(0)\n"
+DELAYS = "def main():\n" + "".join(f"    delay_mu({number})\n" for number in range(STATEMENTS))
+NAMES = expressions_text(1024)
+# 50,000 pulses, which keep the lanes full.
+PULSES = """def main():
+    core.reset()
+    for turn in range(50000):
+        ttl0.pulse_mu(100)
+        delay_mu(100)
+"""
 COLLECTED = re.compile(r"Collected : (\d+)")
 # A function, or one that it calls, with its name where it is met first.
 NAMED = re.compile(r"(c?)fn=\((\d+)\)(?: (.+))?")
@@ -71,21 +89,19 @@ def processor():
     return (many - instructions([CPU, "1", "1"])) / (TURNS - 1) / TURN
 
 
-def statement():
+def statement(program):
     """Host instructions for checking one statement. The text is refused in the end, since it has too many nodes for code."""
-    lines = "".join(f"    delay_mu({number})\n" for number in range(STATEMENTS))
-    return (check(f"def main():\n{lines}", (1,)) - check("def main():\n    delay_mu(0)\n")) / STATEMENTS
+    return (check(program, DELAYS, (1,)) - check(program, ONE_DELAY)) / STATEMENTS
 
 
-def byte():
+def byte(program):
     """Host instructions for checking one byte of long names and comments. The text is refused, since no name is known."""
-    text = expressions_text(1024)
-    return (check(text, (1,)) - check("def main():\n    delay_mu(0)\n")) / len(text)
+    return (check(program, NAMES, (1,)) - check(program, ONE_DELAY)) / len(NAMES)
 
 
-def check(text, statuses=(0,)):
+def check(program, text, statuses=(0,)):
     """Host instructions for checking a text."""
-    return instructions([PROGRAM, "check"], text, statuses)
+    return instructions([program, "check"], text, statuses)
 
 
 def output():
@@ -94,11 +110,39 @@ def output():
     return (many - few) / (MANY - FEW)
 
 
-MEASURES = [
+def whole(words, text="", statuses=(0,)):
+    """What counts the millions of host instructions of a run of the program with these words on a text."""
+    return lambda program: instructions([program, *words], text, statuses) / 1e6
+
+
+def memory(program):
+    """The greatest resident set, in MB, of the run of 100,000 outputs."""
+    with tempfile.TemporaryFile() as text:
+        text.write(PULSES.encode("ascii"))
+        text.seek(0)
+        process = subprocess.Popen([program, "sim"], stdin=text, stdout=subprocess.DEVNULL)
+        _, status, usage = os.wait4(process.pid, 0)
+        process.returncode = os.waitstatus_to_exitcode(status)
+    if process.returncode != 0:
+        sys.exit(f"{program} ended with status {process.returncode}")
+    return usage.ru_maxrss / 1e3
+
+
+BENCHES = [
     ("one instruction of the processor", CPU, processor),
-    ("one statement checked", PROGRAM, statement),
-    ("one byte checked", PROGRAM, byte),
     ("one output, from its request to the trace", CORE, output),
+]
+MEASURES = [
+    ("one statement checked", statement),
+    ("one byte checked", byte),
+    ("M: check of 8,099 statements", whole(["check"], DELAYS, (1,))),
+    ("M: check of 1 MiB of names and comments", whole(["check"], NAMES, (1,))),
+    ("M: compile of 5,200 statements", whole(["compile"], outputs(5200))),
+    ("M: sim of 5,200 statements", whole(["sim"], outputs(5200))),
+    ("M: sim of 100,000 outputs", whole(["sim"], PULSES)),
+    ("M: sim --gen 1, 40,000 outputs", whole(["sim", "--gen", "1"])),
+    ("M: sim of arithmetic, 100,000 turns", whole(["sim"], arithmetic(100_000))),
+    ("MB: memory of 100,000 outputs", memory),
 ]
 
 
@@ -109,16 +153,25 @@ def kept():
     return {row[0]: (row[1], row[2]) for row in rows if len(row) >= 3}
 
 
+def tell(name, figures, now):
+    """Prints the line of a measure."""
+    aim, last = figures.get(name, ("", ""))
+    print(f"{name:44} {now:>9} {aim:>9} {last:>9}", flush=True)
+
+
 def main():
+    parser = argparse.ArgumentParser(description=__doc__, formatter_class=argparse.RawDescriptionHelpFormatter)
+    parser.add_argument("--program", default=PROGRAM)
+    program = parser.parse_args().program
     if not shutil.which("valgrind"):
         print("valgrind isn't installed: nothing is counted")
         return
     figures = kept()
     print(f"{'host instructions for':44} {'now':>9} {'aim':>9} {'kept':>9}")
-    for name, program, measure in MEASURES:
-        aim, last = figures.get(name, ("", ""))
-        now = f"{measure():,.1f}" if os.path.exists(program) else "not built"
-        print(f"{name:44} {now:>9} {aim:>9} {last:>9}")
+    for name, bench, measure in BENCHES:
+        tell(name, figures, f"{measure():,.1f}" if os.path.exists(bench) else "not built")
+    for name, measure in MEASURES:
+        tell(name, figures, f"{measure(program):,.1f}" if os.path.exists(program) else "not built")
     if os.path.exists(CORE):
         few, many = (memory_calls([CORE, str(number), str(DISTANCE), "1"]) for number in (FEW, MANY))
         print(f"a core asks for memory {few} times for {FEW:,} outputs, and {many} times for {MANY:,}: its lists double")

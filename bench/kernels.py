@@ -21,12 +21,15 @@ from timing import PROGRAM, ROOT, SIM, memory_needed
 
 TURNS = 960_000
 
-ARITHMETIC = f"""def main():
+
+def arithmetic(turns):
+    """A kernel of so many turns of arithmetic, which sets three datasets."""
+    return f"""def main():
     x = int64(1)
     mask = int64(0)
     total = int64(0)
     thirds = 0
-    for turn in range({TURNS}):
+    for turn in range({turns}):
         x = (x * 1103515245 + 12345) & 0x7fffffff
         total += x >> 4
         mask = mask ^ x
@@ -36,6 +39,9 @@ ARITHMETIC = f"""def main():
     set_dataset("mask", mask)
     set_dataset("thirds", thirds)
 """
+
+
+ARITHMETIC = arithmetic(TURNS)
 
 PARALLEL = """def pair(first: int64, second: int64):
     with parallel:

@@ -6,5 +6,6 @@ mod Lines
 mod Missed
 mod Set
 mod Spelled
+mod Stopped
 mod Walked
 pub mod Ends

@@ -8,7 +8,7 @@ ghost use Rattle.sim_report.specs.Lines.{count_line, event_fields, event_line, l
 ghost use Rattle.sim_report.specs.Report.{log_counts, log_text};
 
 use crate::kinds::is_kind;
-use crate::numbers::write_spaced;
+use crate::numbers::{write_small, write_spaced};
 use rtio_log::{LogKind, LogLine};
 use rtio_types::Event;
 use std::alloc::AllocError;
@@ -37,9 +37,9 @@ fn write_fields(text: &mut String, event: Event) -> Result<(), AllocError>
     ensures { OnOk result (string_bytes text.new ≡ string_bytes text.old ++ event_fields event) }
 {
     write_spaced(text, event.stamp)?;
-    write_spaced(text, event.channel)?;
-    write_spaced(text, event.address)?;
-    write_spaced(text, event.value)?;
+    write_small(text, event.channel as u32)?;
+    write_small(text, event.address as u32)?;
+    write_small(text, event.value)?;
     text.push_str("\n")
 }
 

@@ -1,6 +1,6 @@
 // The events that are still to be put out.
 
-ghost use Rattle.std.specs.Prelude.{◌≡◌, ◌↔◌, map, slice_get, IfOk, IsTrue, Some};
+ghost use Rattle.std.specs.Prelude.{◌≡◌, ◌↔◌, [], false, map, slice_get, IfOk, IsTrue, Some};
 ghost use Rattle.rtio_log.specs.Kinds.{lines_of};
 ghost use Rattle.rtio_log.specs.declared.LogKind.TheVariants as kind;
 ghost use Rattle.sim_report.specs.Pending.{pending_events, pends};
@@ -16,6 +16,37 @@ use std::alloc::{AllocError, Global};
 /// The accepted events that no reset cleared and whose cycle is above the counter, in the order of submission. The only
 /// error is want of memory.
 pub fn pending_events(alloc: Global, core: &Core) -> Result<Vec<Event>, AllocError>
+    ensures { IfOk result (λ events. events.items ≡ pending_events core.now) }
+{
+    if is_through(core) {
+        return Ok(Vec::new(alloc));
+    }
+    walk_for_pending(alloc, core)
+}
+
+/// Whether an accepted event that no reset cleared is still to be put out: its cycle is above the counter.
+pub fn pends(core: &Core) -> bool
+    ensures { result ≡ pends core.now }
+{
+    if is_through(core) {
+        return false;
+    }
+    walk_for_any(core)
+}
+
+// Whether no session is open and the counter stands still below the horizon: then all is put out, and no walk has to tell.
+fn is_through(core: &Core) -> bool
+    ensures events { IsTrue result → pending_events core.now ≡ [] }
+    ensures none { IsTrue result → pends core.now ≡ false }
+{
+    if core.session().is_some() || core.counter() >= core.horizon() {
+        return false;
+    }
+    core.stopped()
+}
+
+// The same events, found entry by entry.
+fn walk_for_pending(alloc: Global, core: &Core) -> Result<Vec<Event>, AllocError>
     ensures { IfOk result (λ events. events.items ≡ pending_events core.now) }
 {
     let missed = missed(alloc, core.log())?;
@@ -41,8 +72,8 @@ pub fn pending_events(alloc: Global, core: &Core) -> Result<Vec<Event>, AllocErr
     Ok(events)
 }
 
-/// Whether an accepted event that no reset cleared is still to be put out: its cycle is above the counter.
-pub fn pends(core: &Core) -> bool
+// Whether there is one, found entry by entry.
+fn walk_for_any(core: &Core) -> bool
     ensures { result ≡ pends core.now }
 {
     let counter = core.counter();

@@ -8,8 +8,8 @@ use Rattle.sim_report.proofs.Beyond.{pending-since}
 use Rattle.sim_report.proofs.Judging.{here}
 use Rattle.sim_report.proofs.Missed.{numbers_of}
 use Rattle.sim_report.proofs.Walked.{Walked, asks-at, beyond_in, cleared-at, not-next, numbers-at, quiet-at, walked-missed, walked-pushed, walked-skipped}
-use Rattle.sim_report.proofs.pending.pending_events.Goals as goal
-use Rattle.sim_report.proofs.pending.pending_events.Goals.{in-Submits, then-is_next, else-is_next+then-may_pend+in_ok-push-in-Submits, else-is_next+else-may_pend, in-Clears, in-Other}
+use Rattle.sim_report.proofs.pending.walk_for_pending.Goals as goal
+use Rattle.sim_report.proofs.pending.walk_for_pending.Goals.{in-Submits, then-is_next, else-is_next+then-may_pend+in_ok-push-in-Submits, else-is_next+else-may_pend, in-Clears, in-Other}
 
 pub loop-entry-preserved : goal.loop-entry-preserved
 loop-entry-preserved c =

@@ -5,7 +5,7 @@ use Rattle.sim_report.specs.declared.steps.Step.{Step}
 use Rattle.sim_report.specs.Steps.{step_in, still_pends}
 use Rattle.sim_report.proofs.Judging.{here}
 use Rattle.sim_report.proofs.Beyond.{any_beyond, pends-next, pends-since}
-use Rattle.sim_report.proofs.pending.pends.Goals as goal
+use Rattle.sim_report.proofs.pending.walk_for_any.Goals as goal
 
 pub loop-entry-init : goal.loop-entry-init
 loop-entry-init c = refl

@@ -1,6 +1,6 @@
 use Rattle.std.proofs.Common.{◌≡◌, take}
 use Rattle.sim_report.proofs.Beyond.{any_beyond}
-use Rattle.sim_report.proofs.pending.pends.Given as goal
+use Rattle.sim_report.proofs.pending.walk_for_any.Given as goal
 
 -- what is known after the entries so far
 abbrev pub invariant-loop-entry : goal.invariant-loop-entry
