@@ -3,27 +3,16 @@
 #![tactic(auto)]
 
 use lab_io::{StdSink, StdSource};
-use sim_program::{sim_top, without_memory};
-use std::alloc::AllocError;
+use sim_program::{own_words, sim_top, without_memory};
 use std::process::ExitCode;
-use std::{env, io};
 
 fn main(rt: HostRuntime) -> ExitCode {
     let mut source = StdSource::new(rt.stdin());
     let mut out = StdSink::new(rt.stdout());
     let mut err = StdSink::new(rt.stderr());
-    let status = match words(&rt) {
+    let status = match own_words(&rt) {
         Ok(words) => sim_top(rt.alloc(), &words, &mut source, &mut out, &mut err),
         Err(_) => without_memory(&mut err),
     };
     ExitCode::from(status)
-}
-
-// The words behind the program's name. Words that aren't UTF-8 count as none, which isn't accepted.
-fn words(rt: &HostRuntime) -> Result<Vec<String>, AllocError> {
-    match env::args(rt) {
-        Ok(args) => args.skip(1).collect(rt.alloc()),
-        Err(error) if error.kind() == io::ErrorKind::OutOfMemory => Err(AllocError),
-        Err(_) => Ok(Vec::new(rt.alloc())),
-    }
 }

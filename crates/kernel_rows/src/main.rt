@@ -43,14 +43,9 @@ mod telling;
 mod texts;
 
 use crate::kernels::Kernels;
-use std::{env, fs, io};
-use table_rows::walk_table;
+use std::io;
+use table_rows::walk_tables;
 
 fn main(rt: HostRuntime) -> io::Result<()> {
-    for path in env::args(&rt)?.skip(1) {
-        let table = fs::read_to_string(&rt, path.as_str())?;
-        let report = walk_table::<Kernels>(rt.alloc(), path.as_str(), table.as_str())?;
-        print!(rt; "{report}")?;
-    }
-    Ok(())
+    walk_tables::<Kernels, HostRuntime>(&rt)
 }

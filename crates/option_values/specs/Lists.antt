@@ -1,6 +1,6 @@
 -- Edges, holds and recordings in words.
 use Rattle.std.specs.Bool.{then_some}
-use Rattle.std.specs.Prelude.{ℕ, ◌^◌, ◌-◌, ◌&&◌, ◌||◌, Bool, true, false, List, [], ◌∷◌, fold}
+use Rattle.std.specs.Prelude.{ℕ, ◌&&◌, ◌||◌, Bool, true, false, List, [], ◌∷◌, fold}
 use Rattle.std.specs.Prelude.{replicate, nat_le, nat_lt, pos, Option, Some, None, is_some, not}
 use Rattle.std.specs.Prelude.{option_map, option_and_then, bytes_eq, codes, slice_set, if◌then◌else◌}
 use Rattle.std.specs.List.{list_all}
@@ -12,6 +12,7 @@ use Rattle.rtio_types.specs.declared.event.Edge.{Edge}
 use Rattle.recording_bytes.specs.Fields.{first_wrong}
 use Rattle.recording_bytes.specs.Reading.{recording_read}
 use Rattle.rtio_core.specs.declared.named.Named.{Named}
+use Rattle.limits.specs.Limits.{channels, first_input, last_channel, last_stamp, most_hold}
 use Rattle.option_values.specs.Parts.{at_colon, listed}
 use Rattle.option_values.specs.Numbers.{number_in}
 
@@ -21,7 +22,7 @@ use Rattle.option_values.specs.Numbers.{number_in}
 abbrev pub rises : List ℕ → Option Bool
 rises text = if bytes_eq text (codes "r") then Some true else if bytes_eq text (codes "f") then Some false else None
 
--- an input, 24 to 31; a stamp from 0 to below 2^62; and whether the edge rises
+-- an input, a stamp of a script, and whether the edge rises
 abbrev pub edge_by : List ℕ → List ℕ → List ℕ → Option Edge
 edge_by channel stamp direction =
     option_and_then
@@ -29,8 +30,8 @@ edge_by channel stamp direction =
     (λ stamp. option_map
     (λ rising. record { channel = channel; stamp = pos stamp; rising = rising })
     (rises direction))
-    (number_in 0 (2 ^ 62 - 1) stamp))
-    (number_in 24 31 channel)
+    (number_in 0 last_stamp stamp))
+    (number_in first_input last_channel channel)
 
 -- `CHANNEL:STAMP:r` or `CHANNEL:STAMP:f`
 abbrev pub edge_of : List ℕ → Option Edge
@@ -42,12 +43,12 @@ edges_of text = listed edge_of text
 
 -- ---- holds
 
--- a channel, 0 to 31, and 0 to 1,000,000 cycles
+-- a channel, and the cycles for which it executes an event
 abbrev pub hold_by : List ℕ → List ℕ → Option (ℕ × ℕ)
 hold_by channel cycles =
     option_and_then
-    (λ channel. option_map (λ cycles. (channel, cycles)) (number_in 0 1000000 cycles))
-    (number_in 0 31 channel)
+    (λ channel. option_map (λ cycles. (channel, cycles)) (number_in 0 most_hold cycles))
+    (number_in 0 last_channel channel)
 
 -- `CHANNEL:CYCLES`
 abbrev pub hold_of : List ℕ → Option (ℕ × ℕ)
@@ -61,7 +62,7 @@ are_rising (x ∷ y ∷ rest) = nat_lt x.0 y.0 && are_rising (y ∷ rest)
 
 -- no channel has a hold
 abbrev pub no_holds : List ℕ
-no_holds = replicate 32 0
+no_holds = replicate channels 0
 
 -- the holds of all channels; a channel that isn't named has none
 abbrev pub holds_by : List (ℕ × ℕ) → List ℕ

@@ -2,8 +2,9 @@
 use Rattle.std.specs.Bool.{then_some}
 use Rattle.std.specs.Prelude.{ℕ, List, map, Option, Some, None, option_map, bytes_eq, codes, if◌then◌else◌}
 use Rattle.run_schedule.specs.Schedules.{ScheduleState, Lockstep, Letters, Mix, is_word, letter_step}
+use Rattle.limits.specs.Limits.{most_number}
 use Rattle.option_values.specs.Parts.{at_colon}
-use Rattle.option_values.specs.Numbers.{most_number, number_in}
+use Rattle.option_values.specs.Numbers.{number_in}
 
 -- `letters:` and a word, or `mix:` and a number
 abbrev pub schedule_by : List ℕ → List ℕ → Option ScheduleState

@@ -6,15 +6,9 @@ ghost use Rattle.option_values.specs.Lists.{edge_by, edge_of, edges_of, rises};
 
 use crate::end::ValueEnd;
 use crate::numbers::read_number;
+use limits::{FIRST_INPUT, LAST_CHANNEL, LAST_STAMP};
 use rtio_types::{Edge, EdgeList};
 use std::alloc::Global;
-
-// The inputs of the board.
-const FIRST_INPUT: u64 = 24;
-
-const LAST_INPUT: u64 = 31;
-
-const LAST_STAMP: u64 = (1 << 62) - 1;
 
 /// The edges of inputs that `CHANNEL:STAMP:r` and `CHANNEL:STAMP:f` say, one or more, joined by commas. Their stamps (mu) are
 /// below 2^62. Whether they are in order, and how many, isn't asked.
@@ -40,7 +34,7 @@ fn edge_of(text: &str) -> Option<Edge>
 fn edge_by(channel: &str, stamp: &str, direction: &str) -> Option<Edge>
     ensures { result ≡ edge_by channel.now stamp.now direction.now }
 {
-    let channel = read_number(channel, FIRST_INPUT, LAST_INPUT)?;
+    let channel = read_number(channel, FIRST_INPUT, LAST_CHANNEL)?;
     let stamp = read_number(stamp, 0, LAST_STAMP)?;
     let rising = rises(direction)?;
     Some(Edge {

@@ -12,6 +12,6 @@ mod schedules;
 pub use edges::read_edges;
 pub use end::ValueEnd;
 pub use holds::read_holds;
-pub use numbers::{MOST_NUMBER, read_number};
+pub use numbers::read_number;
 pub use recordings::read_recordings;
 pub use schedules::read_schedule;

@@ -5,10 +5,7 @@ ghost use Rattle.std.specs.Char.{is_ascii_digit};
 ghost use Rattle.std.specs.List.{list_all};
 ghost use Rattle.option_values.specs.Numbers.{is_number, number_in, number_of};
 
-/// The greatest number of no quantity, 2^63 - 1.
-pub const MOST_NUMBER: u64 = (1 << 63) - 1;
-
-const MOST_DIGITS: usize = 19;
+use limits::MOST_DIGITS;
 
 /// The number that 1 to 19 decimal digits spell, if it lies from `least` to `most`. The first digits may be zeros.
 pub fn read_number(text: &str, least: u64, most: u64) -> Option<u64>

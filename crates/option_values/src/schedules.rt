@@ -3,7 +3,8 @@
 ghost use Rattle.std.specs.Prelude.{◌≡◌};
 ghost use Rattle.option_values.specs.Schedules.{schedule_by, schedule_of};
 
-use crate::numbers::{MOST_NUMBER, read_number};
+use crate::numbers::read_number;
+use limits::MOST_NUMBER;
 use run_schedule::Schedule;
 
 /// The schedule that `lockstep`, `letters:` with a word, or `mix:` with a number says.

@@ -1,22 +1,8 @@
 // The calls that take memory, with enough of it. Longer histories are told with the core.
 
-use rtio_types::Event;
+use crate::events::{EVENT, LATER};
 use sed_lanes::{Heads, Lanes, Place};
 use std::test::Fail;
-
-const EVENT: Event = Event {
-    channel: 3,
-    address: 0,
-    value: 1,
-    stamp: 1000,
-};
-
-const LATER: Event = Event {
-    channel: 3,
-    address: 0,
-    value: 1,
-    stamp: 2000,
-};
 
 #[test]
 fn outputs_go_to_the_first_lane_that_they_may_enter(rt: HostRuntime) -> Result<(), Fail> {

@@ -1,22 +1,8 @@
 // A link with one credit: its calls that take memory, with enough of it. Longer ones are told with the command `sat`.
 
-use rtio_types::Event;
+use crate::events::{EVENT, LATER};
 use sat_link::{Link, LinkAnswer, LinkStep};
 use std::test::Fail;
-
-const EVENT: Event = Event {
-    channel: 3,
-    address: 0,
-    value: 1,
-    stamp: 1000,
-};
-
-const LATER: Event = Event {
-    channel: 3,
-    address: 0,
-    value: 1,
-    stamp: 2000,
-};
 
 #[test]
 fn one_credit_sends_one_event(rt: HostRuntime) -> Result<(), Fail> {

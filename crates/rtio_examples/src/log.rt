@@ -1,15 +1,8 @@
 // A log with room for its lines.
 
+use crate::events::EVENT;
 use rtio_log::{Log, LogKind, LogLine};
-use rtio_types::Event;
 use std::test::Fail;
-
-const EVENT: Event = Event {
-    channel: 3,
-    address: 0,
-    value: 1,
-    stamp: 1000,
-};
 
 const CLEARED: LogLine = LogLine {
     kind: LogKind::Cleared,

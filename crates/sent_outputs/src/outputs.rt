@@ -4,12 +4,10 @@ ghost use Rattle.std.specs.Prelude.{◌≡◌, length, IfSome, OnSome, None, Som
 ghost use Rattle.rtio_core.specs.Entries.{open_session};
 ghost use Rattle.rtio_core.specs.Reply.{outputs_at};
 
+use limits::{CHANNELS, DEFAULT_DEPTH, DEFAULT_LANES, LOCKSTEP_HORIZON};
 use rtio_core::{Ask, Config, Core, NamedList, StartOf, config_ok};
 use rtio_types::{EdgeList, Event, IntList, Outcome, Request, reading};
 use std::alloc::Global;
-
-// The last cycle that the counter of the core reaches.
-const HORIZON: u64 = 576_460_752_303_423_488;
 
 /// Sends so many outputs through a new core, each so many cycles behind the one before, and returns the core, which has put
 /// out so many events. None where one is lost or would lie beyond the horizon, or there is no memory.
@@ -51,7 +49,7 @@ fn output_of(number: u64, distance: u64) -> Option<Event>
     ensures address { IfSome result (λ event. event.address ≡ 0) }
 {
     let cycle = number.checked_mul(distance)?.checked_add(1)?;
-    if cycle > HORIZON {
+    if cycle > LOCKSTEP_HORIZON {
         return None;
     }
     Some(Event {
@@ -68,12 +66,12 @@ fn opened(alloc: Global) -> Option<Core>
     ensures waiting { IfSome result (λ core. core.waiting ≡ None) }
 {
     let config = Config {
-        lanes: 8,
-        depth: 128,
+        lanes: DEFAULT_LANES as u32,
+        depth: DEFAULT_DEPTH as u32,
         cost: 0,
-        horizon: HORIZON,
+        horizon: LOCKSTEP_HORIZON,
         edges: EdgeList::of(Vec::new(alloc)),
-        holds: [0; 32],
+        holds: [0; CHANNELS],
         kept: NamedList::of(Vec::new(alloc)),
     };
     if !config_ok(&config) {

@@ -23,7 +23,8 @@ use Rattle.slack_check.specs.Lines.{slack_line}
 use Rattle.slack_check.specs.Mains.{MainNeverUnderflows, verdict_of_main}
 use Rattle.slack_meaning.specs.declared.verdict.Verdict.{Verdict}
 use Rattle.slack_meaning.specs.declared.verdict.Verdict.TheVariants.{Yes}
-use Rattle.sim_program.specs.Readings.{IsCodeRun, IsMainRun, TellsOf}
+use Rattle.sim_program.specs.Readings.{IsMainRun, TellsOf}
+use Rattle.sim_program.specs.Runs.{RunsCode}
 use Rattle.sim_program.proofs.Refused.{text-not-refused}
 
 -- ---- runs
@@ -59,7 +60,7 @@ run-answers options form text program code run size (Ok answer) kernel does size
 run-answers options form text program code run size (Err e) kernel does size_is r tells = tt
 
 code-answer : (options : Options) (dma : Bool) (bytes : List ℕ) (code : Code) (run : Run) (size : ℕ) (answer : Answer) → IsAcceptedImage bytes code → ((told : List ℕ) → ¬ IsImageRefused bytes told) → size ≡ length bytes
-    → IsCodeRun code options run.core run.outcome run.steps → TellsOf (Report dma) run options.budget size answer → IsAnswerTo (image_run_of options (Report dma)) bytes answer
+    → RunsCode code options run.core run.outcome run.steps → TellsOf (Report dma) run options.budget size answer → IsAnswerTo (image_run_of options (Report dma)) bytes answer
 code-answer options dma bytes code run size (A.Due written finish) accepted not_refused size_is r tells = (
   record {
     core = run.core;
@@ -70,14 +71,7 @@ code-answer options dma bytes code run size (A.Due written finish) accepted not_
       code = code;
       accepted = accepted;
       size_is = size_is;
-      left = r.left;
-      session = r.session;
-      after = r.after;
-      next = r.next;
-      script = r.script;
-      timed = r.timed;
-      at_top = r.at_top;
-      reported = r.reported;
+      runs = r;
     };
     text = tells.0;
     status_is = ap status_of tells.1;
@@ -88,7 +82,7 @@ code-answer options dma bytes code run size (A.Refused told) accepted not_refuse
 code-answer options dma bytes code run size (A.Bad told) accepted not_refused size_is r tells = absurd tells
 
 pub code-answers : (options : Options) (dma : Bool) (bytes : List ℕ) (code : Code) (run : Run) (size : ℕ) {E : Type 0} (result : Result Answer E) → IsAcceptedImage bytes code → ((told : List ℕ) → ¬ IsImageRefused bytes told) → size ≡ length bytes
-    → IsCodeRun code options run.core run.outcome run.steps → IfOk result (λ answer. TellsOf (Report dma) run options.budget size answer) → IfOk result (λ answer. IsAnswerTo (image_run_of options (Report dma)) bytes answer)
+    → RunsCode code options run.core run.outcome run.steps → IfOk result (λ answer. TellsOf (Report dma) run options.budget size answer) → IfOk result (λ answer. IsAnswerTo (image_run_of options (Report dma)) bytes answer)
 code-answers options dma bytes code run size (Ok answer) accepted not_refused size_is r tells = code-answer options dma bytes code run size answer accepted not_refused size_is r tells
 code-answers options dma bytes code run size (Err e) accepted not_refused size_is r tells = tt
 

@@ -3,6 +3,7 @@ use Rattle.std.proofs.Common.{◌≡◌, ℕ, List, [], ◌∷◌, ◌++◌, ref
 use Rattle.std.specs.Prelude.{◌+◌, ◌*◌, ◌^◌, ◌≤◌, ℤ, true, suc, length, nat_lt, IsTrue}
 use Rattle.std.proofs.lemmas.Bool.{lt-ltb}
 use Rattle.std.proofs.lemmas.List.{length-map}
+use Rattle.limits.specs.Limits.{most_budget}
 use Rattle.rtio_types.specs.declared.outcome.Outcome.{Outcome}
 use Rattle.rtio_types.specs.declared.outcome.Outcome.TheVariants as outcome
 use Rattle.rtio_log.specs.declared.LogLine.{LogLine}
@@ -51,7 +52,7 @@ run-few code units of config first left core how count first_is s is =
     ends front all entry same = ap length same ∙ length-append front (entry ∷ [])
 
 -- so its core tells few events and few lines
-pub tells-few : (core : CoreState) (lines : List LogLine) → length core.history ≤ 1000002 → length (outputs_at core.config core.history core.counter) ≤ length core.history → lines ≡ log_lines_at core.config core.history core.counter → length lines ≤ 4 * length core.history → IsTrue (has_few_entries (dump_of core))
+pub tells-few : (core : CoreState) (lines : List LogLine) → length core.history ≤ most_budget + 2 → length (outputs_at core.config core.history core.counter) ≤ length core.history → lines ≡ log_lines_at core.config core.history core.counter → length lines ≤ 4 * length core.history → IsTrue (has_few_entries (dump_of core))
 tells-few core lines short trace is log =
     let events : nat_lt (length (outputs_at core.config core.history core.counter)) (2 ^ 32) ≡ true = lt-ltb (length (outputs_at core.config core.history core.counter)) (2 ^ 32) (omega (arith, short, trace)) in
     let same : length lines ≡ length (log_lines_at core.config core.history core.counter) = ap length is in

@@ -25,8 +25,8 @@ use Rattle.kernel_session.specs.Meant.{MeansSession, TakesArguments, script_of}
 use Rattle.sim_report.specs.Ends.{EndsWith, HasEnded}
 use Rattle.sim_report.proofs.Ends.{ends-with}
 use Rattle.sim_words.specs.declared.asked.Options.{Options}
-use Rattle.sim_program.specs.Runs.{IsMain, IsReported, start_of}
-use Rattle.sim_program.specs.Readings.{IsCodeRun, IsMainRun}
+use Rattle.sim_program.specs.Runs.{IsMain, IsReported, RunsCode, start_of}
+use Rattle.sim_program.specs.Readings.{IsMainRun}
 
 no-parameters : (parameters : List ParameterTree) → length parameters ≡ 0 → ArgumentsFit parameters []
 no-parameters [] none = tt
@@ -124,7 +124,7 @@ pub code-run : (code : Code) (options : Options) (of : StartOf) (first left core
     → RunsSession code options.budget of first left how count
     → (next : List Reply → Next) → IsScriptOf code (beginning_of of options.budget first) next → IsTimed next 0 of first options.schedule left after
     → (options.schedule ≡ Lockstep → GrowsAtTop first left) → IsReported left core → outcome ≡ how → steps ≡ count
-    → IsCodeRun code options core outcome steps
+    → RunsCode code options core outcome steps
 code-run code options of first left core after how outcome count steps of_is first_is runs next script timed top reported how_is steps_is =
     let start : StartOf = start_of code.main in
     let new : CoreState = new_core options.config in

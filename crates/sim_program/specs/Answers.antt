@@ -1,5 +1,6 @@
 -- What each command reads, what it owes its bytes, and which it refuses.
 use Rattle.std.specs.Prelude.{◌≡◌, ℕ, List, true, false, codes}
+use Rattle.limits.specs.Limits.{most_dump, most_image, most_text}
 use Rattle.kern_syntax.specs.Tree.{ProgramTree}
 use Rattle.kern_syntax.specs.Print.{program_text}
 use Rattle.core_isa.specs.declared.code.Code.{Code}
@@ -23,20 +24,6 @@ use Rattle.sim_program.specs.Runs.{RunsImage, RunsKernel}
 use Rattle.sim_program.specs.Reports.{Tells}
 use Rattle.sim_program.specs.Links.{TellsLink}
 use Rattle.sim_program.specs.Slack.{TellsSlack}
-
--- ---- where a command's bytes come from
-
--- the most bytes of a kernel's text
-abbrev pub max_text : ℕ
-max_text = 1048576
-
--- the most bytes of an image
-abbrev pub max_image : ℕ
-max_image = 8388608
-
--- the most bytes of a dump
-abbrev pub max_dump : ℕ
-max_dump = 33554432
 
 -- ---- what a command owes its bytes
 
@@ -105,16 +92,16 @@ text_itself = record {
 
 -- what each command reads or has, and what it owes it
 abbrev pub command_of : Asked → Command
-command_of (Sim options dma) = record { origin = Reads max_text; duty = run_of options (Report dma) }
+command_of (Sim options dma) = record { origin = Reads most_text; duty = run_of options (Report dma) }
 command_of (Generated number options) = record { origin = Has (kernel_text number); duty = run_of options Summary }
-command_of Check = record { origin = Reads max_text; duty = of_kernel (IsDueWhole PrintsText) }
-command_of Compile = record { origin = Reads max_text; duty = of_kernel (IsDueWhole CompilesText) }
-command_of (Exec options dma) = record { origin = Reads max_image; duty = image_run_of options (Report dma) }
+command_of Check = record { origin = Reads most_text; duty = of_kernel (IsDueWhole PrintsText) }
+command_of Compile = record { origin = Reads most_text; duty = of_kernel (IsDueWhole CompilesText) }
+command_of (Exec options dma) = record { origin = Reads most_image; duty = image_run_of options (Report dma) }
 command_of (Gen number) = record { origin = Has (kernel_text number); duty = text_itself }
-command_of (Dump options) = record { origin = Reads max_text; duty = run_of options Bytes }
-command_of Vcd = record { origin = Reads max_dump; duty = waveform }
-command_of (Sat options word) = record { origin = Reads max_text; duty = link_of options word }
-command_of (Slack cost depth) = record { origin = Reads max_text; duty = of_kernel (IsDueWhole (TellsSlack cost depth)) }
+command_of (Dump options) = record { origin = Reads most_text; duty = run_of options Bytes }
+command_of Vcd = record { origin = Reads most_dump; duty = waveform }
+command_of (Sat options word) = record { origin = Reads most_text; duty = link_of options word }
+command_of (Slack cost depth) = record { origin = Reads most_text; duty = of_kernel (IsDueWhole (TellsSlack cost depth)) }
 
 abbrev pub simulator : Program Asked
 simulator = record {

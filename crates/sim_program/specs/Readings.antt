@@ -1,13 +1,8 @@
 -- What the program's parts make of its bytes.
 use Rattle.std.specs.Prelude.{◌≡◌, ℕ, List, None}
 use Rattle.rtio_types.specs.declared.outcome.Outcome.{Outcome}
-use Rattle.rtio_types.specs.declared.request.Reply.{Reply}
 use Rattle.rtio_core.specs.Core.{CoreState, new_core}
-use Rattle.run_schedule.specs.Schedules.{Lockstep, ScheduleState}
-use Rattle.core_session.specs.Lockstep.{GrowsAtTop}
-use Rattle.core_session.specs.Scripts.{IsScriptOf, Next}
-use Rattle.core_session.specs.Sessions.{RunsSession, beginning_of}
-use Rattle.core_session.specs.Timed.{IsTimed}
+use Rattle.core_session.specs.Sessions.{RunsSession}
 use Rattle.kern_syntax.specs.Tree.{ProgramTree}
 use Rattle.core_isa.specs.declared.code.Code.{Code}
 use Rattle.core_isa.specs.Marks.{Marked}
@@ -55,17 +50,6 @@ pub record IsMainRun (program : ProgramTree) (code : Code) (options : Options) (
   pub left : CoreState
   pub runs : RunsMain program options code.main left how
   pub counted : RunsSession code options.budget (start_of code.main) (new_core options.config) left how steps
-  pub reported : IsReported left core
-
--- a run of the main function of accepted code leaves this core, by the script of its runs
-pub record IsCodeRun (code : Code) (options : Options) (core : CoreState) (how : Outcome) (steps : ℕ) : Type 0 where
-  pub left : CoreState
-  pub session : RunsSession code options.budget (start_of code.main) (new_core options.config) left how steps
-  pub after : ScheduleState
-  pub next : List Reply → Next
-  pub script : IsScriptOf code (beginning_of (start_of code.main) options.budget (new_core options.config)) next
-  pub timed : IsTimed next 0 (start_of code.main) (new_core options.config) options.schedule left after
-  pub at_top : options.schedule ≡ Lockstep → GrowsAtTop (new_core options.config) left
   pub reported : IsReported left core
 
 -- an answer has the text of a run and its finish

@@ -65,13 +65,10 @@ pub record RunsKernel (options : Options) (text : List ℕ) (core : CoreState) (
   pub counted : IsCounted program options main left how size steps
   pub reported : IsReported left core
 
--- a run of the accepted code whose image the bytes are leaves this core: the session's
--- requests, outcome and cursor are those of the code's run under its replies, and history and
--- counter are the ones that the options' schedule makes of the script of the code's runs, step by step
-pub record RunsImage (options : Options) (bytes : List ℕ) (core : CoreState) (how : Outcome) (size steps : ℕ) : Type 0 where
-  pub code : Code
-  pub accepted : IsAcceptedImage bytes code
-  pub size_is : size ≡ length bytes
+-- a run of the main function of accepted code leaves this core: the session's requests, outcome
+-- and cursor are those of the code's run under its replies, and history and counter are the ones
+-- that the options' schedule makes of the script of the code's runs, step by step
+pub record RunsCode (code : Code) (options : Options) (core : CoreState) (how : Outcome) (steps : ℕ) : Type 0 where
   pub left : CoreState
   pub session : RunsSession code options.budget (start_of code.main) (new_core options.config) left how steps
   pub after : ScheduleState
@@ -80,3 +77,10 @@ pub record RunsImage (options : Options) (bytes : List ℕ) (core : CoreState) (
   pub timed : IsTimed next 0 (start_of code.main) (new_core options.config) options.schedule left after
   pub at_top : options.schedule ≡ Lockstep → GrowsAtTop (new_core options.config) left
   pub reported : IsReported left core
+
+-- the bytes are the image of accepted code, of which a run leaves this core
+pub record RunsImage (options : Options) (bytes : List ℕ) (core : CoreState) (how : Outcome) (size steps : ℕ) : Type 0 where
+  pub code : Code
+  pub accepted : IsAcceptedImage bytes code
+  pub size_is : size ≡ length bytes
+  pub runs : RunsCode code options core how steps

@@ -1,5 +1,6 @@
 // What the program answers to the bytes of a command.
-ghost use Rattle.std.specs.Prelude.{◌≡◌, ◌≤◌, ◌<◌, ◌^◌, ℕ, List, length, IfOk, IsTrue};
+ghost use Rattle.std.specs.Prelude.{◌≡◌, ◌≤◌, ◌<◌, ◌+◌, ◌^◌, ℕ, List, length, IfOk, IsTrue};
+ghost use Rattle.limits.specs.Limits.{most_budget, most_cost, most_depth};
 ghost use Rattle.kern_syntax.specs.TreeOf.{tree_of};
 ghost use Rattle.rtio_core.specs.Entries.{is_config_ok};
 ghost use Rattle.sim_report.specs.Ends.{HasEnded};
@@ -58,7 +59,7 @@ fn answer_by_run(
     form: Form,
 ) -> Result<Answer, AllocError>
     requires config { IsTrue (is_config_ok options.config) }
-    requires units { options.budget ≤ 1000000 }
+    requires units { options.budget ≤ most_budget }
     requires short { length text.now < 2 ^ 31 }
     ensures { IfOk result (λ answer. IsAnswerTo (run_of options form) text.now answer) }
 {
@@ -76,7 +77,7 @@ fn answer_of_kernel(
     form: Form,
 ) -> Result<Answer, AllocError>
     requires config { IsTrue (is_config_ok options.config) }
-    requires units { options.budget ≤ 1000000 }
+    requires units { options.budget ≤ most_budget }
     ensures { (text : List ℕ) → IsKernelText text (tree_of compiled.now.0)
         → IfOk result (λ answer. IsAnswerTo (run_of options form) text answer) }
 {
@@ -94,7 +95,7 @@ fn answer_by_link(
     word: &LinkWord,
 ) -> Result<Answer, AllocError>
     requires config { IsTrue (is_config_ok options.config) }
-    requires units { options.budget ≤ 1000000 }
+    requires units { options.budget ≤ most_budget }
     requires short { length text.now < 2 ^ 31 }
     ensures { IfOk result (λ answer. IsAnswerTo (link_of options word.now) text.now answer) }
 {
@@ -112,7 +113,7 @@ fn answer_of_link(
     word: &LinkWord,
 ) -> Result<Answer, AllocError>
     requires config { IsTrue (is_config_ok options.config) }
-    requires units { options.budget ≤ 1000000 }
+    requires units { options.budget ≤ most_budget }
     ensures { (text : List ℕ) → IsKernelText text (tree_of compiled.now.0)
         → IfOk result (λ answer. IsAnswerTo (link_of options word.now) text answer) }
 {
@@ -144,8 +145,8 @@ fn answer_by_text(alloc: Global, text: &[u8]) -> Result<Answer, AllocError>
 
 // Tells whether an output of a kernel can come too late.
 fn answer_by_slack(alloc: Global, text: &[u8], cost: u64, depth: u32) -> Result<Answer, AllocError>
-    requires cost { cost ≤ 1000000 }
-    requires depth { (1 ≤ depth) × (depth ≤ 1024) }
+    requires cost { cost ≤ most_cost }
+    requires depth { (1 ≤ depth) × (depth ≤ most_depth) }
     requires short { length text.now < 2 ^ 31 }
     ensures { IfOk result (λ answer. IsAnswerTo (command_of (Asked.Slack cost depth)).duty text.now answer) }
 {
@@ -183,7 +184,7 @@ fn answer_by_code(
     dma: bool,
 ) -> Result<Answer, AllocError>
     requires config { IsTrue (is_config_ok options.config) }
-    requires units { options.budget ≤ 1000000 }
+    requires units { options.budget ≤ most_budget }
     ensures { IfOk result (λ answer. IsAnswerTo (command_of (Asked.Exec options dma)).duty bytes.now answer) }
 {
     match image_of(alloc, bytes)? {
@@ -219,7 +220,7 @@ fn answer_of_run(
     size: u64,
 ) -> Result<Answer, AllocError>
     requires ended { HasEnded run.now.core.history }
-    requires few { length run.now.core.history ≤ 1000002 }
+    requires few { length run.now.core.history ≤ most_budget + 2 }
     ensures { IfOk result (λ answer. TellsOf form run.now budget size answer) }
 {
     Ok(Answer::Due {

@@ -14,6 +14,6 @@ mod wave;
 
 pub use finish::finish_of;
 pub use refusal::line_of_end;
-pub use run::{Run, run_main};
+pub use run::{Run, run_main, start_of};
 pub use top::sim_top;
-pub use top_calls::without_memory;
+pub use top_calls::{own_words, without_memory};

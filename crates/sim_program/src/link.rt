@@ -1,5 +1,6 @@
 // The lines of a link over which a run's events are sent.
-ghost use Rattle.std.specs.Prelude.{◌≤◌, length, IfOk};
+ghost use Rattle.std.specs.Prelude.{◌+◌, ◌≤◌, length, IfOk};
+ghost use Rattle.limits.specs.Limits.{most_budget, most_depth, most_lanes};
 ghost use Rattle.sim_program.specs.Links.{IsSentAs};
 
 use crate::run::Run;
@@ -16,9 +17,9 @@ pub fn lines_of(
     depth: u32,
     word: &LinkWord,
 ) -> Result<Vec<u8>, AllocError>
-    requires lanes { (1 ≤ lanes) × (lanes ≤ 32) }
-    requires depth { (1 ≤ depth) × (depth ≤ 1024) }
-    requires few { length run.now.core.history ≤ 1000002 }
+    requires lanes { (1 ≤ lanes) × (lanes ≤ most_lanes) }
+    requires depth { (1 ≤ depth) × (depth ≤ most_depth) }
+    requires few { length run.now.core.history ≤ most_budget + 2 }
     ensures { IfOk result (λ bytes. IsSentAs word.now lanes depth run.now.core bytes.items) }
 {
     no_more_is_told_than_was_asked();

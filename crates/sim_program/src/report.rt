@@ -1,5 +1,6 @@
 // The text of a run.
-ghost use Rattle.std.specs.Prelude.{◌≡◌, ◌≤◌, ◌++◌, length, IfOk};
+ghost use Rattle.std.specs.Prelude.{◌≡◌, ◌+◌, ◌≤◌, ◌++◌, length, IfOk};
+ghost use Rattle.limits.specs.Limits.{most_budget};
 ghost use Rattle.core_analyzer.specs.CoreDumps.{dump_of};
 ghost use Rattle.core_analyzer.specs.Dumps.{dump_bytes};
 ghost use Rattle.sim_report.specs.Ends.{HasEnded};
@@ -34,7 +35,7 @@ pub fn text_of(
     size: u64,
 ) -> Result<Vec<u8>, AllocError>
     requires ended { HasEnded run.now.core.history }
-    requires few { length run.now.core.history ≤ 1000002 }
+    requires few { length run.now.core.history ≤ most_budget + 2 }
     ensures { IfOk result (λ bytes. bytes.items ≡ told_text form run.now.core budget size run.now.steps) }
 {
     match form {
@@ -63,7 +64,7 @@ fn report_with_recordings(
 
 // What the core did: it has put out and logged no more than its numbers of 32 bits can tell.
 fn bytes_of(alloc: Global, run: &Run) -> Result<Vec<u8>, AllocError>
-    requires { length run.now.core.history ≤ 1000002 }
+    requires { length run.now.core.history ≤ most_budget + 2 }
     ensures { IfOk result (λ bytes. bytes.items ≡ dump_bytes (dump_of run.now.core)) }
 {
     no_more_is_told_than_was_asked();

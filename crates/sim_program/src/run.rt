@@ -3,8 +3,8 @@ ghost use Rattle.std.specs.Prelude.{◌≡◌, ◌≤◌, ◌+◌, length, IfOk,
 ghost use Rattle.kern_syntax.specs.TreeOf.{tree_of};
 ghost use Rattle.rtio_core.specs.Entries.{is_config_ok, open_session};
 ghost use Rattle.sim_report.specs.Ends.{HasEnded};
-ghost use Rattle.sim_program.specs.Readings.{IsCodeRun, IsMainRun};
-ghost use Rattle.sim_program.specs.Runs.{IsReported, start_of};
+ghost use Rattle.sim_program.specs.Readings.{IsMainRun};
+ghost use Rattle.sim_program.specs.Runs.{IsReported, RunsCode, start_of};
 
 use core_code::Compiled;
 use core_image::Verified;
@@ -37,7 +37,7 @@ pub fn run_main(alloc: Global, compiled: &Compiled, options: Options) -> Result<
     let main = compiled.code().code().main;
     let mut schedule = options.schedule;
     let mut core = Core::new(alloc, options.config)?;
-    let of = session_of(alloc, main as u32);
+    let of = start_of(alloc, main as u32);
     match run_session(
         alloc,
         &mut core,
@@ -55,7 +55,7 @@ pub fn run_main(alloc: Global, compiled: &Compiled, options: Options) -> Result<
 /// Runs the main function of accepted code in the same way.
 pub fn run_image(alloc: Global, code: &Verified, options: Options) -> Result<Run, AllocError>
     requires { IsTrue (is_config_ok options.config) }
-    ensures run { IfOk result (λ run. IsCodeRun code.now options run.core run.outcome run.steps) }
+    ensures run { IfOk result (λ run. RunsCode code.now options run.core run.outcome run.steps) }
     ensures ended { IfOk result (λ run. HasEnded run.core.history) }
     ensures few { IfOk result (λ run. length run.core.history ≤ options.budget + 2) }
 {
@@ -63,7 +63,7 @@ pub fn run_image(alloc: Global, code: &Verified, options: Options) -> Result<Run
     let main = code.code().main;
     let mut schedule = options.schedule;
     let mut core = Core::new(alloc, options.config)?;
-    let of = session_of(alloc, main as u32);
+    let of = start_of(alloc, main as u32);
     match run_code(alloc, &mut core, code, of, options.budget, &mut schedule) {
         Ok(ran) => Ok(settled(core, ran)),
         Err(SessionEnd::Memory) => Err(AllocError),
@@ -71,8 +71,8 @@ pub fn run_image(alloc: Global, code: &Verified, options: Options) -> Result<Run
     }
 }
 
-// What the session of a function runs.
-fn session_of(alloc: Global, function: u32) -> StartOf
+/// What the session of a function runs: the function of source 0, without arguments, for the first step of run 0.
+pub fn start_of(alloc: Global, function: u32) -> StartOf
     ensures { result ≡ start_of function }
 {
     StartOf {

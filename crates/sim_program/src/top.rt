@@ -9,21 +9,13 @@ ghost use Rattle.top_calls.specs.Streams.{stream};
 use crate::answer::answer_to;
 use kernel_gen::generated_text;
 use lab_io::{Sink, Source};
+use limits::{MOST_DUMP, MOST_IMAGE, MOST_TEXT};
 use sim_words::{Asked, WordsEnd, read_words};
 use std::alloc::Global;
 use top_calls::{Answer, Stop, read_up_to, tell};
 
 const USAGE: &[u8] =
     b"usage: artiq_sim sim or check or compile or exec or gen or slack or dump or vcd or sat\n";
-
-// The most bytes of a kernel's text.
-const MAX_TEXT: u64 = 1_048_576;
-
-// The most bytes of an image.
-const MAX_IMAGE: u64 = 8_388_608;
-
-// The most bytes of a dump.
-const MAX_DUMP: u64 = 33_554_432;
 
 /// Answers the words. Under `sim` it reads a kernel's text, runs it and writes its report, or with `--gen` runs a generated
 /// kernel and writes the summary of its run; under `check` it reads a kernel's text and writes its canonical text; under
@@ -84,9 +76,9 @@ fn bytes_of<S: Source>(alloc: Global, asked: &Asked, source: &mut S) -> Result<V
         | Asked::Sat { .. }
         | Asked::Slack { .. }
         | Asked::Check
-        | Asked::Compile => read_up_to(alloc, source, MAX_TEXT),
-        Asked::Exec { .. } => read_up_to(alloc, source, MAX_IMAGE),
-        Asked::Vcd => read_up_to(alloc, source, MAX_DUMP),
+        | Asked::Compile => read_up_to(alloc, source, MOST_TEXT),
+        Asked::Exec { .. } => read_up_to(alloc, source, MOST_IMAGE),
+        Asked::Vcd => read_up_to(alloc, source, MOST_DUMP),
         Asked::Generated { number, .. } | Asked::Gen { number } => {
             Ok(generated_text(alloc, *number)?)
         }

@@ -9,6 +9,7 @@ use Rattle.rtio_core.specs.declared.data.Config.{Config}
 use Rattle.rtio_core.specs.declared.named.Named.{Named}
 use Rattle.rtio_core.specs.Entries.{is_config_ok}
 use Rattle.run_schedule.specs.Schedules.{ScheduleState}
+use Rattle.limits.specs.Limits.{default_depth, most_budget, most_cost, most_depth}
 use Rattle.option_values.specs.declared.end.ValueEnd.{ValueEnd}
 use Rattle.option_values.specs.Readings.{Reads}
 use Rattle.option_values.specs.Numbers.{number_in, number_of}
@@ -31,30 +32,30 @@ number-within least most text = go (number_of text)
     go None = tt
     go (Some n) = tested n (nat_le least n && nat_le n most) refl
 
-budget-within : (given : List Given) → IfSome (budget_of given) (λ n. (1 ≤ n) × (n ≤ 1000000))
+budget-within : (given : List Given) → IfSome (budget_of given) (λ n. (1 ≤ n) × (n ≤ most_budget))
 budget-within given = go (value_of (codes "budget") given)
   where
-    go : (o : Option (List ℕ)) → IfSome (read_or 1000000 (number_in 1 1000000) o) (λ n. (1 ≤ n) × (n ≤ 1000000))
+    go : (o : Option (List ℕ)) → IfSome (read_or most_budget (number_in 1 most_budget) o) (λ n. (1 ≤ n) × (n ≤ most_budget))
     go None = (lit≤ tt, lit≤ tt)
-    go (Some text) = number-within 1 1000000 text
+    go (Some text) = number-within 1 most_budget text
 
-cost-within : (given : List Given) → IfSome (cost_of given) (λ n. n ≤ 1000000)
+cost-within : (given : List Given) → IfSome (cost_of given) (λ n. n ≤ most_cost)
 cost-within given = go (value_of (codes "cost") given)
   where
-    upper : (o : Option ℕ) → IfSome o (λ n. (0 ≤ n) × (n ≤ 1000000)) → IfSome o (λ n. n ≤ 1000000)
+    upper : (o : Option ℕ) → IfSome o (λ n. (0 ≤ n) × (n ≤ most_cost)) → IfSome o (λ n. n ≤ most_cost)
     upper None h = tt
     upper (Some n) h = h.1
 
-    go : (o : Option (List ℕ)) → IfSome (read_or 0 (number_in 0 1000000) o) (λ n. n ≤ 1000000)
+    go : (o : Option (List ℕ)) → IfSome (read_or 0 (number_in 0 most_cost) o) (λ n. n ≤ most_cost)
     go None = lit≤ tt
-    go (Some text) = upper (number_in 0 1000000 text) (number-within 0 1000000 text)
+    go (Some text) = upper (number_in 0 most_cost text) (number-within 0 most_cost text)
 
-depth-within : (given : List Given) → IfSome (depth_of given) (λ n. (1 ≤ n) × (n ≤ 1024))
+depth-within : (given : List Given) → IfSome (depth_of given) (λ n. (1 ≤ n) × (n ≤ most_depth))
 depth-within given = go (value_of (codes "depth") given)
   where
-    go : (o : Option (List ℕ)) → IfSome (read_or 128 (number_in 1 1024) o) (λ n. (1 ≤ n) × (n ≤ 1024))
+    go : (o : Option (List ℕ)) → IfSome (read_or default_depth (number_in 1 most_depth) o) (λ n. (1 ≤ n) × (n ≤ most_depth))
     go None = (lit≤ tt, lit≤ tt)
-    go (Some text) = number-within 1 1024 text
+    go (Some text) = number-within 1 most_depth text
 
 abbrev IsOk : Config → Type 0
 IsOk config = IsTrue (is_config_ok config)
@@ -88,9 +89,9 @@ config-accepted given =
     config-ok (lanes_of given) (depth_of given) (cost_of given) (horizon_of given) (edges_given given) (holds_given given) (recordings_given given)
 
 abbrev AreAccepted : Options → Type 0
-AreAccepted options = IsTrue (is_config_ok options.config) × (1 ≤ options.budget) × (options.budget ≤ 1000000)
+AreAccepted options = IsTrue (is_config_ok options.config) × (1 ≤ options.budget) × (options.budget ≤ most_budget)
 
-options-ok : (schedule : Option ScheduleState) (budget : Option ℕ) (config : Option Config) → IfSome budget (λ n. (1 ≤ n) × (n ≤ 1000000)) → IfSome config IsOk
+options-ok : (schedule : Option ScheduleState) (budget : Option ℕ) (config : Option Config) → IfSome budget (λ n. (1 ≤ n) × (n ≤ most_budget)) → IfSome config IsOk
     → IfSome
     (if_read schedule (λ schedule. if_read budget (λ budget. if_read config (λ config.
     Some (record { config = config; budget = budget; schedule = schedule })))))
@@ -152,7 +153,7 @@ sat-accepted given = go (options_of given) (link_given given) (options-accepted 
 pub slack-accepted : (given : List Given) → IfSome (slack_of given) IsAccepted
 slack-accepted given = go (cost_of given) (depth_of given) (cost-within given) (depth-within given)
   where
-    go : (cost depth : Option ℕ) → IfSome cost (λ n. n ≤ 1000000) → IfSome depth (λ n. (1 ≤ n) × (n ≤ 1024))
+    go : (cost depth : Option ℕ) → IfSome cost (λ n. n ≤ most_cost) → IfSome depth (λ n. (1 ≤ n) × (n ≤ most_depth))
         → IfSome (if_read cost (λ cost. option_map (λ depth. Slack cost depth) depth)) IsAccepted
     go None depth most within = tt
     go (Some cost) None most within = tt

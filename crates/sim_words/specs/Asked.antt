@@ -10,7 +10,9 @@ use Rattle.rtio_core.specs.Entries.{is_config_ok}
 use Rattle.sat_rounds.specs.declared.letters.Letter.{Letter}
 use Rattle.sat_rounds.specs.Words.{word_of}
 use Rattle.run_schedule.specs.Schedules.{ScheduleState, Lockstep}
-use Rattle.option_values.specs.Numbers.{most_number, number_in}
+use Rattle.limits.specs.Limits.{default_depth, default_horizon, default_lanes, lockstep_horizon, most_budget, most_cost}
+use Rattle.limits.specs.Limits.{most_depth, most_lanes, most_number}
+use Rattle.option_values.specs.Numbers.{number_in}
 use Rattle.option_values.specs.Schedules.{schedule_of}
 use Rattle.option_values.specs.Lists.{edges_of, holds_of, no_holds, recordings_of}
 use Rattle.sim_words.specs.Given.{Given, given_of, value_of}
@@ -28,27 +30,28 @@ read_or default read (Some text) = read text
 
 -- the limit that each request raises, in machine units
 abbrev pub cost_of : List Given → Option ℕ
-cost_of given = read_or 0 (number_in 0 1000000) (value_of (codes "cost") given)
+cost_of given = read_or 0 (number_in 0 most_cost) (value_of (codes "cost") given)
 
 abbrev pub lanes_of : List Given → Option ℕ
-lanes_of given = read_or 8 (number_in 1 32) (value_of (codes "lanes") given)
+lanes_of given = read_or default_lanes (number_in 1 most_lanes) (value_of (codes "lanes") given)
 
 abbrev pub depth_of : List Given → Option ℕ
-depth_of given = read_or 128 (number_in 1 1024) (value_of (codes "depth") given)
+depth_of given = read_or default_depth (number_in 1 most_depth) (value_of (codes "depth") given)
 
 abbrev pub schedule_given : List Given → Option ScheduleState
 schedule_given given = read_or Lockstep schedule_of (value_of (codes "schedule") given)
 
 -- in cycles; in lockstep, by default or by its word, a core may go farther
 abbrev pub most_horizon : Option (List ℕ) → ℕ
-most_horizon None = 576460752303423488
-most_horizon (Some schedule) = if bytes_eq schedule (codes "lockstep") then 576460752303423488 else 134217728
+most_horizon None = lockstep_horizon
+most_horizon (Some schedule) = if bytes_eq schedule (codes "lockstep") then lockstep_horizon else default_horizon
 
 abbrev pub horizon_of : List Given → Option ℕ
-horizon_of given = read_or 134217728 (number_in 1 (most_horizon (value_of (codes "schedule") given))) (value_of (codes "horizon") given)
+horizon_of given =
+    read_or default_horizon (number_in 1 (most_horizon (value_of (codes "schedule") given))) (value_of (codes "horizon") given)
 
 abbrev pub budget_of : List Given → Option ℕ
-budget_of given = read_or 1000000 (number_in 1 1000000) (value_of (codes "budget") given)
+budget_of given = read_or most_budget (number_in 1 most_budget) (value_of (codes "budget") given)
 
 abbrev pub edges_given : List Given → Option (List Edge)
 edges_given given = read_or [] edges_of (value_of (codes "edges") given)
@@ -193,10 +196,10 @@ options_in Vcd = None
 options_in (Sat options word) = Some options
 options_in (Slack cost depth) = None
 
--- a core can be made with the settings, and the budget is of 1 to 1,000,000
--- units; a cost and a depth without other settings are those that a core may have
+-- a core can be made with the settings, and the budget is one that a run
+-- may have; a cost and a depth without other settings are those that a core may have
 abbrev pub IsAccepted : Asked → Type 0
-IsAccepted (Slack cost depth) = (cost ≤ 1000000) × (1 ≤ depth) × (depth ≤ 1024)
+IsAccepted (Slack cost depth) = (cost ≤ most_cost) × (1 ≤ depth) × (depth ≤ most_depth)
 IsAccepted asked =
     IfSome (options_in asked) (λ (options : Options).
-    IsTrue (is_config_ok options.config) × (1 ≤ options.budget) × (options.budget ≤ 1000000))
+    IsTrue (is_config_ok options.config) × (1 ≤ options.budget) × (options.budget ≤ most_budget))

@@ -3,6 +3,7 @@
 ghost use Rattle.std.specs.Prelude.{◌≡◌, ◌≤◌, IfSome, option_map};
 ghost use Rattle.option_values.specs.Readings.{Reads};
 ghost use Rattle.option_values.specs.Numbers.{number_in};
+ghost use Rattle.limits.specs.Limits.{default_horizon};
 ghost use Rattle.sim_words.specs.Given.{value_of};
 ghost use Rattle.sim_words.specs.Matches.{HasOptions, given_in};
 ghost use Rattle.sim_words.specs.Asked.{budget_of, config_of, cost_of, depth_of, dma_of, edges_given, holds_given, horizon_of, link_given, most_horizon, options_of, read_or, recordings_given, schedule_given};
@@ -10,6 +11,10 @@ ghost use Rattle.sim_words.specs.Asked.{budget_of, config_of, cost_of, depth_of,
 use crate::asked::Options;
 use crate::given::value_of;
 use clap::ArgMatches;
+use limits::{
+    CHANNELS, DEFAULT_DEPTH, DEFAULT_HORIZON, DEFAULT_LANES, LOCKSTEP_HORIZON, MOST_BUDGET,
+    MOST_COST, MOST_DEPTH, MOST_LANES,
+};
 use option_values::{
     ValueEnd, read_edges, read_holds, read_number, read_recordings, read_schedule,
 };
@@ -18,23 +23,6 @@ use rtio_types::EdgeList;
 use run_schedule::Schedule;
 use sat_rounds::LinkWord;
 use std::alloc::Global;
-
-const DEFAULT_LANES: u64 = 8;
-
-const MOST_LANES: u64 = 32;
-
-const DEFAULT_DEPTH: u64 = 128;
-
-const MOST_DEPTH: u64 = 1_024;
-
-const MOST_COST: u64 = 1_000_000;
-
-const MOST_BUDGET: u64 = 1_000_000;
-
-// The greatest horizon, in cycles, and that of lockstep.
-const MOST_HORIZON: u64 = 1 << 27;
-
-const LOCKSTEP_HORIZON: u64 = 1 << 59;
 
 /// All options of a run.
 pub fn read_options(alloc: Global, given: &ArgMatches<'_>) -> Result<Options, ValueEnd>
@@ -150,16 +138,16 @@ fn read_horizon(given: &ArgMatches<'_>) -> Option<u64>
     ensures { result ≡ horizon_of (given_in given.now) }
 {
     let most = most_horizon(value_of(given, "schedule"));
-    read_or(value_of(given, "horizon"), MOST_HORIZON, 1, most)
+    read_or(value_of(given, "horizon"), DEFAULT_HORIZON, 1, most)
 }
 
 fn most_horizon(schedule: Option<&str>) -> u64
     ensures value { result ≡ most_horizon (option_map (λ text. text.now) schedule.entry) }
-    ensures bound { 134217728 ≤ result }
+    ensures bound { default_horizon ≤ result }
 {
     match schedule {
         None | Some("lockstep") => LOCKSTEP_HORIZON,
-        Some(_) => MOST_HORIZON,
+        Some(_) => DEFAULT_HORIZON,
     }
 }
 
@@ -173,12 +161,12 @@ fn read_edges_given(alloc: Global, given: &ArgMatches<'_>) -> Result<EdgeList, V
     }
 }
 
-fn read_holds_given(given: &ArgMatches<'_>) -> Option<[u32; 32]>
+fn read_holds_given(given: &ArgMatches<'_>) -> Option<[u32; CHANNELS]>
     requires { HasOptions given.now }
     ensures { result ≡ holds_given (given_in given.now) }
 {
     match value_of(given, "hold") {
-        None => Some([0; 32]),
+        None => Some([0; CHANNELS]),
         Some(text) => read_holds(text),
     }
 }

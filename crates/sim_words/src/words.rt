@@ -10,7 +10,8 @@ use crate::asked::Asked;
 use crate::given::{read_given, value_of};
 use crate::options::{read_cost, read_depth, read_dma, read_link, read_options};
 use clap::ArgMatches;
-use option_values::{MOST_NUMBER, ValueEnd, read_number};
+use limits::MOST_NUMBER;
+use option_values::{ValueEnd, read_number};
 use std::alloc::Global;
 
 const SIM_NAMES: [&str; 11] = [

@@ -17,4 +17,4 @@ mod walking;
 pub use answers::{push_answer, push_output};
 pub use rows::{Tally, is_answer, is_row, push_line};
 pub use texts::push_text;
-pub use walking::{Bench, walk_table};
+pub use walking::{Bench, walk_tables};

@@ -1,5 +1,5 @@
 // What a table is made of, and what is told of it. A program whose rows need more than an allocator, as threads, goes through its
-// tables by these; `walk_table` does so for the others.
+// tables by these; `walk_tables` does so for the others.
 
 use std::alloc::{AllocError, Global};
 

@@ -2,6 +2,8 @@
 
 use crate::rows::{Tally, is_answer, is_row, push_line};
 use std::alloc::{AllocError, Global};
+use std::rt::{Env, Files};
+use std::{env, fs, io};
 
 /// What takes the lines of one row and answers them.
 pub trait Bench: Drop {
@@ -13,9 +15,20 @@ pub trait Bench: Drop {
     fn take(&mut self, alloc: Global, line: &str, told: &mut String) -> Result<(), AllocError>;
 }
 
-/// Goes through the rows of a table. Gives each row that comes out otherwise, as it comes out, and at last a line with the table's
-/// name, the number of its rows, and how many came out otherwise. Fails only for want of memory.
-pub fn walk_table<B: Bench>(alloc: Global, name: &str, table: &str) -> Result<String, AllocError> {
+/// Goes through the tables whose paths are the words behind the program's name, and prints of each the rows
+/// that come out otherwise, as they come out, and a line with the table's name, the number of its rows, and how many came out
+/// otherwise. Fails where a table can't be read, where the report can't be written, and for want of memory.
+pub fn walk_tables<B: Bench, R: Env + Files + Print + AllocGlobal>(rt: &R) -> io::Result<()> {
+    for path in env::args(rt)?.skip(1) {
+        let table = fs::read_to_string(rt, path.as_str())?;
+        let report = walk_table::<B>(rt.alloc(), path.as_str(), table.as_str())?;
+        print!(rt; "{report}")?;
+    }
+    Ok(())
+}
+
+// Goes through the rows of a table, and gives what is printed of it. Fails only for want of memory.
+fn walk_table<B: Bench>(alloc: Global, name: &str, table: &str) -> Result<String, AllocError> {
     let mut tally = Tally::new(alloc);
     for paragraph in table.trim_end().split("\n\n") {
         if is_row(paragraph) {

@@ -9,9 +9,11 @@ mod finish;
 mod reading;
 mod stop;
 mod telling;
+mod words;
 
 pub use answer::Answer;
 pub use finish::{Finish, status_of};
 pub use reading::read_up_to;
 pub use stop::Stop;
 pub use telling::{tell, without_memory};
+pub use words::own_words;
