@@ -1,5 +1,5 @@
 -- A laboratory whose cores went on until they were stopped.
-use Rattle.std.proofs.Common.{◌≡◌, ◌<◌, ℕ, List, ◌++◌, drop, length, take, refl, sym, ap, subst, ◌∙◌, arith}
+use Rattle.std.proofs.Common.{◌≡◌, ◌<◌, ℕ, List, map, refl, sym, ap, subst, ◌∙◌, arith}
 use Rattle.std.specs.Prelude.{[], Option, None}
 use Rattle.rtio_types.specs.declared.request.Waiting.{Waiting}
 use Rattle.rtio_core.specs.Core.{CoreState, core_top}
@@ -13,9 +13,9 @@ use Rattle.sched_core.specs.Scheds.{IsSched, SchedValue}
 use Rattle.stage_work.specs.Finished.{IsFinished, IsFinishedCore}
 use Rattle.stage_work.specs.Laws.{AreAskedAtTop, CoresAreAskedAtTop}
 use Rattle.stage_work.specs.Serving.{ArePrompt}
-use Rattle.lab_program.proofs.Alone.{as-slice}
-use Rattle.lab_program.specs.Draining.{AreDrained, IsDrained}
-use Rattle.lab_program.specs.Laboratories.{ArePromptCores, IsRunCore, IsRunOf, IsWorkedOff}
+use Rattle.lab_program.specs.Laboratories.{ArePromptCores, IsRunCore, IsRunOf, IsToldRun, IsWorkedOff}
+use Rattle.lab_program.specs.Telling.{AreTold}
+use Rattle.lab_program.proofs.Told.{AreDrained, IsDrained, are-drained, lines-are}
 
 -- several workers
 pub crew-worked : (session : Session) (sched : SchedValue) (cores : List CoreState) → 1 < session.workers
@@ -44,7 +44,7 @@ run-core headline before pipeline core at_top d = record {
   headline = headline core d.lawful.lawful;
 }
 
-pub finished : HeadlineHolds → CoresAreAskedAtTop → (session : Session) (sched : SchedValue) (left cores : List CoreState)
+finished : HeadlineHolds → CoresAreAskedAtTop → (session : Session) (sched : SchedValue) (left cores : List CoreState)
     → IsWorkedOff session sched left → IsSched sched → AreDrained left cores → IsRunOf session sched cores
 finished headline late session sched left cores done lawful all = record {
   lawful = lawful;
@@ -76,11 +76,10 @@ finished headline late session sched left cores done lawful all = record {
         let P : CoreState → Type 0 = λ c. ArePrompt [] c.history in
         subst P (sym d.drained_is) (so pipeline d.left d.found)
 
-pub finished-slice : HeadlineHolds → CoresAreAskedAtTop → (session : Session) (sched : SchedValue) (left lent now : List CoreState) (n : ℕ)
-    → n ≡ length left → lent ≡ left → IsWorkedOff session sched left → IsSched sched → AreDrained lent now
-    → IsRunOf session sched (take n (now ++ drop (length now) left))
-finished-slice headline late session sched left lent now n is same done lawful all =
-    let R : List CoreState → Type 0 = λ cores. IsRunOf session sched cores in
-    let D : List CoreState → Type 0 = λ cores. AreDrained cores now in
-    subst R (sym (as-slice left now n is (all.count ∙ ap length same)))
-    (finished headline late session sched left now done lawful (subst D same all))
+pub finished-told : HeadlineHolds → CoresAreAskedAtTop → (session : Session) (sched : SchedValue) (left : List CoreState) (lines : List (List ℕ))
+    → IsWorkedOff session sched left → IsSched sched → AreTold 0 left lines → IsToldRun session sched lines
+finished-told headline late session sched left lines done lawful told = record {
+  cores = map drained left;
+  is_run = finished headline late session sched left (map drained left) done lawful (are-drained left lines told);
+  lines_are = lines-are 0 left lines told;
+}

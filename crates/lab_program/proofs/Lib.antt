@@ -1,6 +1,6 @@
 mod Alone
 mod Answering
 mod Cores
-mod Drained
 mod Finishing
+mod Told
 mod Words

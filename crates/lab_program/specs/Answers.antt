@@ -2,13 +2,10 @@
 use Rattle.std.specs.Prelude.{◌≡◌, ℕ, List, [], ◌∷◌, Option, Some, None, true, false, codes}
 use Rattle.exp_model.specs.declared.session.Session.{Session}
 use Rattle.exp_json.specs.Texts.{IsSessionText}
+use Rattle.limits.specs.Limits.{most_session}
 use Rattle.top_calls.specs.Commands.{Duty, Program, Reads}
 use Rattle.lab_program.specs.Laboratories.{ReportsRun}
 use Rattle.lab_program.specs.Refusals.{IsRefusedText}
-
--- the most bytes of a session
-abbrev pub max_bytes : ℕ
-max_bytes = 1048576
 
 -- the text is a session, and the bytes are the report of a run of it
 pub record ReportsText (text written : List ℕ) : Type 0 where
@@ -29,7 +26,7 @@ abbrev pub laboratory : Program (Unit {0})
 laboratory = record {
   usage = codes "usage: artiq_lab\n";
   takes_memory = false;
-  command_of = λ ask. record { origin = Reads max_bytes; duty = report_of_session };
+  command_of = λ ask. record { origin = Reads most_session; duty = report_of_session };
 }
 
 -- a session is asked for without words, and no word is accepted

@@ -1,10 +1,10 @@
 -- What a laboratory leaves whose session came to its end.
-use Rattle.std.specs.Prelude.{◌≡◌, ℕ, List, [], slice_get, Some, None}
+use Rattle.std.specs.Prelude.{◌≡◌, ℕ, List, [], flat_map, slice_get, Some, None}
 use Rattle.rtio_core.specs.Core.{CoreState, IsCore, core_top}
 use Rattle.rtio_headline.specs.Headline.{Headline}
 use Rattle.exp_model.specs.declared.session.Session.{Session}
 use Rattle.sched_core.specs.Scheds.{IsSched, SchedValue}
-use Rattle.lab_report.specs.Report.{lab_text}
+use Rattle.lab_report.specs.Report.{cores_from, lab_text}
 use Rattle.stage_work.specs.Finished.{IsFinished}
 use Rattle.stage_work.specs.Laws.{AreAskedAtTop}
 use Rattle.stage_work.specs.Serving.{ArePrompt}
@@ -37,6 +37,12 @@ pub record IsRunOf (session : Session) (sched : SchedValue) (cores : List CoreSt
   pub lawful : IsSched sched
   pub done : IsWorkedOff session sched cores
   pub each : (pipeline : ℕ) (core : CoreState) → slice_get cores pipeline ≡ Some core → IsRunCore core
+
+-- the lines are those of the cores of such a run, by pipeline
+pub record IsToldRun (session : Session) (sched : SchedValue) (lines : List (List ℕ)) : Type 0 where
+  pub cores : List CoreState
+  pub is_run : IsRunOf session sched cores
+  pub lines_are : flat_map (λ line. line) lines ≡ cores_from 0 cores
 
 -- the bytes are the report of such a run
 pub record ReportsRun (session : Session) (written : List ℕ) : Type 0 where

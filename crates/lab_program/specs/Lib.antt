@@ -1,4 +1,4 @@
-pub mod Draining
+pub mod Telling
 pub mod Laboratories
 pub mod Refusals
 pub mod Answers

@@ -1,25 +1,27 @@
-// Cores that go on until they are stopped.
+// A core that goes on until it is stopped, and what is told of it.
 
-ghost use Rattle.std.specs.Prelude.{◌≡◌, ℕ, slice_get, None, Some};
-ghost use Rattle.rtio_core.specs.Core.{CoreState, IsCore};
+ghost use Rattle.std.specs.Prelude.{◌≡◌, None, option_map, string_bytes};
+ghost use Rattle.rtio_core.specs.Core.{IsCore};
 ghost use Rattle.rtio_core.specs.Entries.{open_session};
 ghost use Rattle.core_session.specs.Timed.{drained};
-ghost use Rattle.lab_program.specs.Draining.{AreDrained};
+ghost use Rattle.lab_program.specs.Telling.{IsTold};
 
 use core_session::drain_core;
+use lab_report::core_lines;
 use rtio_core::Core;
+use std::alloc::Global;
 
-/// Lets each core, on which no session is open, go on until it is stopped.
-pub fn drain_cores(cores: &mut [Core])
-    requires { (pipeline : ℕ) (core : CoreState) → slice_get cores.old pipeline ≡ Some core → open_session core.history ≡ None }
-    ensures { AreDrained cores.old cores.new }
+/// Lets the core of a pipeline, on which no session is open, go on until it is stopped, and gives its lines, if memory suffices.
+pub fn lines_of(alloc: Global, pipeline: u64, core: Core) -> Option<String>
+    requires { open_session core.history ≡ None }
+    ensures { IsTold pipeline core (option_map string_bytes result) }
 {
-    for core in cores.iter_mut() {
-        drain(core);
-    }
+    let mut core = core;
+    drain(&mut core);
+    core_lines(alloc, pipeline, &core).ok()
 }
 
-// One of them.
+// Lets it go on until it is stopped.
 fn drain(core: &mut Core)
     requires { open_session core.old.history ≡ None }
     ensures value { core.new ≡ drained core.old }

@@ -6,9 +6,10 @@ mod draining;
 mod laboratory;
 mod opening;
 mod refusal;
+mod telling;
 mod top;
 
 pub use laboratory::run_laboratory;
 pub use opening::open_cores;
 pub use top::lab_top;
-pub use top_calls::without_memory;
+pub use top_calls::{own_words, without_memory};

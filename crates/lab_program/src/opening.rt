@@ -6,6 +6,7 @@ ghost use Rattle.rtio_core.specs.Core.{new_core};
 ghost use Rattle.stage_work.specs.Settings.{config_of, new_cores};
 
 use exp_model::{Pipeline, Session};
+use limits::CHANNELS;
 use rtio_core::{Config, Core, NamedList};
 use std::alloc::{AllocError, Global};
 
@@ -41,7 +42,7 @@ fn config_of(alloc: Global, session: &Session, pipeline: &Pipeline) -> Result<Co
         cost: session.cost,
         horizon: session.horizon,
         edges: pipeline.edges.copy(alloc)?,
-        holds: [0; 32],
+        holds: [0; CHANNELS],
         kept: NamedList::of(Vec::new(alloc)),
     })
 }

@@ -7,6 +7,7 @@ ghost use Rattle.top_calls.specs.Streams.{stream};
 
 use crate::answer::answer_to;
 use lab_io::{Sink, Source};
+use limits::MOST_SESSION;
 use stage_work::Gate;
 use std::alloc::Global;
 use std::sync::Wait;
@@ -14,9 +15,6 @@ use std::thread::Threads;
 use top_calls::{Answer, Stop, read_up_to, tell};
 
 const USAGE: &[u8] = b"usage: artiq_lab\n";
-
-// The most bytes of a session.
-const MAX_BYTES: u64 = 1_048_576;
 
 /// Reads a session, has as many workers as it says do what it asks for, and writes the report. One worker works alone; of several each
 /// runs in a thread of its own, where one can be made. What is promised is promised of all the orders in which they may take turns.
@@ -60,6 +58,6 @@ fn answer_of<R: Threads + Wait + Sync, S: Source, G: Gate + Sync>(
     if !words.is_empty() {
         return Err(Stop::Usage);
     }
-    let text = read_up_to(alloc, source, MAX_BYTES)?;
+    let text = read_up_to(alloc, source, MOST_SESSION)?;
     Ok(answer_to(rt, alloc, &text, gate)?)
 }

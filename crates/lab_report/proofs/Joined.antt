@@ -19,7 +19,7 @@ cores-more start (first ∷ rest) core =
     ∙ sym (append_assoc (core_text start first) (cores_from (suc start) rest) (core_text (start + suc (length rest)) core))
 
 -- the text of some cores, and that of one more
-pub core-written : (before now text : List ℕ) (cores : List CoreState) (i pipeline : ℕ) (core : CoreState)
+core-written : (before now text : List ℕ) (cores : List CoreState) (i pipeline : ℕ) (core : CoreState)
     → i < length cores → core ≡ get_or cores i core → pipeline ≡ i
     → text ≡ before ++ cores_from 0 (take i cores) → now ≡ text ++ core_text pipeline core
     → now ≡ before ++ cores_from 0 (take (i + 1) cores)
@@ -34,6 +34,15 @@ core-written before now text cores i pipeline core within at is so_far more =
     ∙ ap (λ (n : ℕ). before ++ (cores_from 0 (take i cores) ++ core_text n core)) (is ∙ sym count ∙ none)
     ∙ ap (λ (t : List ℕ). before ++ t) (sym (cores-more 0 (take i cores) core))
     ∙ ap (λ (cs : List CoreState). before ++ cores_from 0 cs) (sym next)
+
+-- the texts of some cores, and that of one more
+pub lines-more : {T : Type 0} (bytes : T → List ℕ) (cores : List CoreState) (i pipeline : ℕ) (core : CoreState) (texts now : List T) (text : T)
+    → i < length cores → core ≡ get_or cores i core → pipeline ≡ i
+    → flat_map bytes texts ≡ cores_from 0 (take i cores) → bytes text ≡ core_text pipeline core → now ≡ texts ++ text ∷ []
+    → flat_map bytes now ≡ cores_from 0 (take (i + 1) cores)
+lines-more bytes cores i pipeline core texts now text within at is so_far more grown =
+    core-written [] (flat_map bytes now) (flat_map bytes texts) cores i pipeline core within at is so_far
+    (ap (flat_map bytes) grown ∙ sym (flat_map_more bytes [] texts text) ∙ ap (λ (t : List ℕ). flat_map bytes texts ++ t) more)
 
 -- what holds of a value that is there
 pub of-some : {X : Type 0} (P : X → Type 0) (r : Option X) (x : X) → r ≡ Some x → IfSome r P → P x

@@ -1,6 +1,6 @@
 // The lines of the cores.
 
-ghost use Rattle.std.specs.Prelude.{◌≡◌, ◌++◌, pos, OnOk, codes, string_bytes};
+ghost use Rattle.std.specs.Prelude.{◌≡◌, ◌++◌, flat_map, pos, IfOk, OnOk, codes, string_bytes};
 ghost use Rattle.rtio_core.specs.Entries.{last_cursor};
 ghost use Rattle.rtio_types.specs.Time.{reading};
 ghost use Rattle.sim_report.specs.Lines.{moment_line};
@@ -11,16 +11,34 @@ use rtio_types::reading;
 use sim_report::{pending_events, write_events, write_log, write_moment};
 use std::alloc::{AllocError, Global};
 
-/// Appends the lines of each core, by pipeline.
-pub fn write_cores(alloc: Global, text: &mut String, cores: &[Core]) -> Result<(), AllocError>
-    ensures { OnOk result (string_bytes text.new ≡ string_bytes text.old ++ cores_from 0 cores.now) }
+// What a line of an event takes in most reports.
+const LINE: usize = 32;
+
+// What the other lines of a core take.
+const CLOSING: usize = 128;
+
+/// The lines of each core, by pipeline.
+pub fn lines_of_cores(alloc: Global, cores: &[Core]) -> Result<Vec<String>, AllocError>
+    ensures { IfOk result (λ lines. flat_map string_bytes lines.items ≡ cores_from 0 cores.now) }
 {
+    let mut lines = Vec::with_capacity(alloc, cores.len())?;
     let mut pipeline = 0u64;
     for core in cores {
-        write_core(alloc, text, pipeline, core)?;
+        lines.push(core_lines(alloc, pipeline, core)?)?;
         pipeline += 1;
     }
-    Ok(())
+    Ok(lines)
+}
+
+/// The lines of the core of a pipeline, as the report has them. The only error is want of memory.
+pub fn core_lines(alloc: Global, pipeline: u64, core: &Core) -> Result<String, AllocError>
+    ensures { IfOk result (λ lines. string_bytes lines ≡ core_text pipeline core.now) }
+{
+    let lines = core.trace().len().saturating_add(core.log().len());
+    let room = lines.saturating_mul(LINE).saturating_add(CLOSING);
+    let mut text = String::with_capacity(alloc, room)?;
+    write_core(alloc, &mut text, pipeline, core)?;
+    Ok(text)
 }
 
 // Appends the lines of a core.

@@ -7,4 +7,5 @@ mod runs;
 mod steps;
 mod text;
 
-pub use text::report;
+pub use cores::core_lines;
+pub use text::{report, report_of_lines};

@@ -1,9 +1,10 @@
 // The report of a laboratory.
 
-ghost use Rattle.std.specs.Prelude.{◌≡◌, IfOk};
-ghost use Rattle.lab_report.specs.Report.{lab_text};
+ghost use Rattle.std.specs.Prelude.{◌≡◌, ◌++◌, List, flat_map, IfOk, OnOk, string_bytes};
+ghost use Rattle.rtio_core.specs.Core.{CoreState};
+ghost use Rattle.lab_report.specs.Report.{cores_from, lab_text};
 
-use crate::cores::write_cores;
+use crate::cores::lines_of_cores;
 use crate::datasets::write_datasets;
 use crate::runs::write_runs;
 use crate::steps::write_steps;
@@ -11,7 +12,7 @@ use rtio_core::Core;
 use sched_core::{Payload, Sched};
 use std::alloc::{AllocError, Global};
 
-// What a line takes in most reports.
+// What the line of a step takes.
 const LINE: usize = 32;
 
 /// The report of a laboratory: its scheduler, and its cores by pipeline. It has, each on a line of its own and in this order:
@@ -28,23 +29,44 @@ pub fn report<P: Payload>(
 ) -> Result<Vec<u8>, AllocError>
     ensures { IfOk result (λ bytes. bytes.items ≡ lab_text sched.now cores.now) }
 {
-    let lines = lines_of(cores).saturating_add(sched.history().len());
-    let mut text = String::with_capacity(alloc, lines.saturating_mul(LINE))?;
+    let lines = lines_of_cores(alloc, cores)?;
+    report_of_lines(alloc, sched, &lines)
+}
+
+/// The same report, of a scheduler and of the lines of each core, by pipeline (`core_lines`).
+pub fn report_of_lines<P: Payload>(
+    alloc: Global,
+    sched: &Sched<P>,
+    lines: &[String],
+) -> Result<Vec<u8>, AllocError>
+    ensures { IfOk result (λ bytes. (cores : List CoreState) → flat_map string_bytes lines.now ≡ cores_from 0 cores
+        → bytes.items ≡ lab_text sched.now cores) }
+{
+    let steps = sched.history().len().saturating_mul(LINE);
+    let mut text = String::with_capacity(alloc, bytes_of(lines).saturating_add(steps))?;
     write_steps(&mut text, sched.history())?;
     write_runs(&mut text, sched.runs().items())?;
     write_datasets(&mut text, sched.datasets())?;
-    write_cores(alloc, &mut text, cores)?;
+    write_all(&mut text, lines)?;
     text.push_str("end\n")?;
     Ok(text.into_bytes())
 }
 
-// How many lines tell of events that were put out or are in the logs.
-fn lines_of(cores: &[Core]) -> usize {
-    let mut lines: usize = 0;
-    for core in cores {
-        lines = lines
-            .saturating_add(core.trace().len())
-            .saturating_add(core.log().len());
+// Appends these texts, one behind the other.
+fn write_all(text: &mut String, parts: &[String]) -> Result<(), AllocError>
+    ensures { OnOk result (string_bytes text.new ≡ string_bytes text.old ++ flat_map string_bytes parts.now) }
+{
+    for part in parts {
+        text.push_str(part.as_str())?;
     }
-    lines
+    Ok(())
+}
+
+// How many bytes they have.
+fn bytes_of(parts: &[String]) -> usize {
+    let mut bytes: usize = 0;
+    for part in parts {
+        bytes = bytes.saturating_add(part.len());
+    }
+    bytes
 }
