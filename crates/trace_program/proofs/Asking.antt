@@ -1,6 +1,7 @@
 -- The words behind the command that has the same options.
 use Rattle.std.proofs.Common.{◌≡◌, ℕ, ◌≤◌, List, ◌∷◌, Option, Some, None, refl, ap, sym, subst, ◌∙◌}
 use Rattle.std.specs.Prelude.{codes, option_map, IsTrue}
+use Rattle.limits.specs.Limits.{most_budget}
 use Rattle.sim_words.specs.declared.asked.Asked.{Asked}
 use Rattle.sim_words.specs.declared.asked.Asked.TheVariants.{Dump}
 use Rattle.sim_words.specs.declared.asked.Options.{Options}
@@ -40,5 +41,5 @@ dump-none words all all_is none = by (options_asked words) refl (sym (dump-asked
     by (Some options) some told = absurd (let clash : Some (Dump options) ≡ None = sym (ap (option_map Dump) some) ∙ told in cc)
 
 -- they are those of a run
-pub dump-accepted : (asked : Asked) (options : Options) → asked ≡ Dump options → IsAccepted asked → IsTrue (is_config_ok options.config) × (1 ≤ options.budget) × (options.budget ≤ 1000000)
+pub dump-accepted : (asked : Asked) (options : Options) → asked ≡ Dump options → IsAccepted asked → IsTrue (is_config_ok options.config) × (1 ≤ options.budget) × (options.budget ≤ most_budget)
 dump-accepted asked options is accepted = subst (λ (a : Asked). IsAccepted a) is accepted

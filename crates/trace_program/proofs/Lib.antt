@@ -1,3 +1,4 @@
 mod Asking
+mod Left
 mod Placing
 mod Telling

@@ -3,3 +3,4 @@ pub mod Places
 pub mod Traces
 pub mod Readings
 pub mod Answers
+pub mod Laws

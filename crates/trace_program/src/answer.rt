@@ -1,6 +1,7 @@
 // What the program answers to the bytes of its source.
 
 ghost use Rattle.std.specs.Prelude.{◌≡◌, ◌≤◌, ◌<◌, ◌^◌, ◌||◌, ℕ, List, length, option_map, IfOk, IsTrue};
+ghost use Rattle.limits.specs.Limits.{most_budget};
 ghost use Rattle.kern_syntax.specs.TreeOf.{tree_of};
 ghost use Rattle.code_forms.specs.Programs.{code_of_program};
 ghost use Rattle.kern_accepted.specs.Texts.{IsKernel, IsTextOf};
@@ -26,7 +27,7 @@ use trace_report::{Ended, TextPlace, misses, trace};
 /// Runs the kernel that a text is and traces the run, or says why the text is refused.
 pub fn answer_to(alloc: Global, options: Options, text: &[u8]) -> Result<Answer, AllocError>
     requires config { IsTrue (is_config_ok options.config) }
-    requires units { options.budget ≤ 1000000 }
+    requires units { options.budget ≤ most_budget }
     requires short { length text.now < 2 ^ 31 }
     ensures { IfOk result (λ answer. IsTraceAnswer options text.now answer) }
 {
@@ -43,7 +44,7 @@ fn answer_of_kernel(
     options: Options,
 ) -> Result<Answer, AllocError>
     requires config { IsTrue (is_config_ok options.config) }
-    requires units { options.budget ≤ 1000000 }
+    requires units { options.budget ≤ most_budget }
     requires code { compiled.now.1 ≡ code_of_program (tree_of compiled.now.0) }
     requires kernel { IsKernel (tree_of compiled.now.0) }
     ensures { (text : List ℕ) → IsTextOf text (tree_of compiled.now.0) →

@@ -3,9 +3,11 @@
 #![tactic(auto)]
 
 mod answer;
+mod laws;
 mod places;
 mod top;
 mod words;
 
+pub use laws::no_trace_leaves_out_an_output;
 pub use top::trace_top;
-pub use top_calls::without_memory;
+pub use top_calls::{own_words, without_memory};

@@ -10,9 +10,8 @@ ghost use Rattle.trace_program.specs.Places.{HasPlaces, beginning, main_line, te
 
 use core_image::Verified;
 use kernel_places::{Place, RunPlaces, ends_are_told, line_at, places_of_session};
-use rtio_core::StartOf;
-use rtio_types::{IntList, Outcome};
-use sim_program::Run;
+use rtio_types::Outcome;
+use sim_program::{Run, start_of};
 use std::alloc::{AllocError, Global};
 use trace_report::TextPlace;
 
@@ -55,19 +54,6 @@ fn seeks_end(run: &Run) -> bool
     ensures stands { run.now.steps ≡ 2 ^ 64 - 1 → result ≡ false }
 {
     !matches!(run.outcome, Outcome::Returned) && run.steps < u64::MAX
-}
-
-// What the session of a function runs.
-fn start_of(alloc: Global, function: u32) -> StartOf
-    ensures { result ≡ start_of function }
-{
-    StartOf {
-        source: 0,
-        function,
-        args: IntList::of(Vec::new(alloc)),
-        rid: 0,
-        pos: 0,
-    }
 }
 
 /// Where in the text instructions stand, by the line of each.

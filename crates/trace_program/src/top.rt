@@ -10,15 +10,13 @@ ghost use Rattle.trace_program.specs.Words.{options_asked};
 use crate::answer::answer_to;
 use crate::words::read_options;
 use lab_io::{Sink, Source};
+use limits::MOST_TEXT;
 use sim_words::WordsEnd;
 use std::alloc::Global;
 use top_calls::{Answer, Stop, read_up_to, tell};
 
 const USAGE: &[u8] =
     b"usage: artiq_trace with --cost --lanes --depth --horizon --budget --schedule --edges --hold --recordings\n";
-
-// The most bytes of a kernel's text.
-const MAX_TEXT: u64 = 1_048_576;
 
 /// Answers the words, which are options of a run: it reads a kernel's text, runs it as `artiq_sim sim` does, and writes the
 /// trace of the run.
@@ -55,6 +53,6 @@ fn answer_of<S: Source>(alloc: Global, words: &[String], source: &mut S) -> Resu
         Err(WordsEnd::Refused) => return Err(Stop::Usage),
         Err(WordsEnd::Memory) => return Err(Stop::Memory),
     };
-    let text = read_up_to(alloc, source, MAX_TEXT)?;
+    let text = read_up_to(alloc, source, MOST_TEXT)?;
     Ok(answer_to(alloc, options, &text)?)
 }

@@ -1,6 +1,7 @@
 // The words of the program.
 
 ghost use Rattle.std.specs.Prelude.{◌≡◌, ◌≤◌, ◌∷◌, codes, map, string_bytes, IfOk, IsTrue, Some, None, Err};
+ghost use Rattle.limits.specs.Limits.{most_budget};
 ghost use Rattle.rtio_core.specs.Entries.{is_config_ok};
 ghost use Rattle.sim_words.specs.declared.asked.Options.{Options};
 ghost use Rattle.trace_program.specs.Words.{options_asked};
@@ -14,7 +15,7 @@ pub fn read_options(alloc: Global, words: &[String]) -> Result<Options, WordsEnd
     ensures ok { IfOk result (λ options. options_asked (map string_bytes words.now) ≡ Some options) }
     ensures refused { result ≡ Err WordsEnd.Refused → options_asked (map string_bytes words.now) ≡ None }
     ensures config { IfOk result (λ options. IsTrue (is_config_ok options.config)) }
-    ensures units { IfOk result (λ options. options.budget ≤ 1000000) }
+    ensures units { IfOk result (λ options. options.budget ≤ most_budget) }
 {
     let all = behind_command(alloc, words)?;
     match read_words(alloc, &all) {

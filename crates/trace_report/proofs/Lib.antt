@@ -1,3 +1,4 @@
 mod Counts
 mod Joined
+mod Left
 mod Walked

@@ -4,3 +4,4 @@ pub mod Requests
 pub mod Lines
 pub mod Trace
 pub mod Walk
+pub mod Laws

@@ -3,6 +3,7 @@
 #![tactic(auto)]
 
 mod closing;
+mod laws;
 mod least;
 mod outputs;
 mod passed;
@@ -11,6 +12,7 @@ mod requests;
 mod texts;
 mod words;
 
+pub use laws::no_output_is_left_out;
 pub use outputs::misses;
 pub use place::TextPlace;
 pub use texts::{Ended, trace};

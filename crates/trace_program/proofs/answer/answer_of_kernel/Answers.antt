@@ -1,5 +1,6 @@
 use Rattle.std.proofs.Common.{◌≤◌, ap, subst, sym, ◌∙◌}
 use Rattle.code_law.specs.DoesAs.{DoesAs}
+use Rattle.kern_accepted.specs.Texts.{most_nodes}
 use Rattle.kern_syntax.specs.Nodes.{program_nodes}
 use Rattle.kern_syntax.specs.Tree.{ProgramTree}
 use Rattle.kern_syntax.specs.TreeOf.{tree_of}
@@ -9,7 +10,7 @@ use Rattle.trace_program.proofs.answer.answer_of_kernel.Goals as goal
 
 pub program_lines-requires : goal.program_lines-requires
 program_lines-requires c =
-    subst (λ (p : ProgramTree). program_nodes p ≤ 16384) (ap tree_of (sym c.checked.ensures.kept)) c.requires.kernel.small
+    subst (λ (p : ProgramTree). program_nodes p ≤ most_nodes) (ap tree_of (sym c.checked.ensures.kept)) c.requires.kernel.small
 
 pub places_of_main-requires : goal.places_of_main-requires
 places_of_main-requires c =
