@@ -276,7 +276,7 @@ TYPES: tuple[Advice, ...] = (
     ),
     Advice(
         "type 1 Unknown", "def main(): at_mu(start)", "def main(): at_mu(now_mu())",
-        "the name has no value yet",
+        "the name has no value yet in this function, and there are no globals: assign it first, or make it a parameter",
     ),
     Advice(
         "type 1 Method", "def main(): ttl0.pulse(500)", "def main(): ttl0.pulse_mu(500)",

@@ -6,6 +6,7 @@ import argparse
 import pathlib
 import sys
 
+from .cli import write
 from .command_words import add_options, kernel_of, options_of
 from .compare import compare
 from .errors import OptionError
@@ -33,7 +34,7 @@ def add_command(commands: argparse._SubParsersAction[argparse.ArgumentParser]) -
 def _do(parsed: argparse.Namespace) -> int:
     first, second = (_report(path, parsed) for path in (parsed.first, parsed.second))
     found = compare(first, second, parsed.shift)
-    print(found)
+    write(f"{found}\n")
     return 0 if found.same or (parsed.shift is not None and found.same_but_for_shift) else DIFFERENT
 
 

@@ -10,7 +10,7 @@ import pathlib
 from collections.abc import Sequence
 from typing import Any
 
-from .kernels import KernelLike, KernelText, read_kernel
+from .kernels import KernelLike, KernelText, read_source
 from .options import Edges, read_edges
 from .steps import Step, submission
 
@@ -127,7 +127,8 @@ class Day:
         name : str
             Its name, by which it is submitted.
         source : str, path or function
-            The kernel's text, its file, or a Python function, as `run` takes them.
+            The kernel's text, its file, or a Python function, as `run` takes them. A function may have parameters: the steps
+            name it, and what it is called with.
         run : sequence of Step
             1 to 16 steps on the core: see `buszlogem.steps`.
         prepare, analyze : sequence of Step
@@ -217,7 +218,7 @@ class Day:
         return tuple(self.pipelines) or (ONLY_PIPELINE,)
 
     def _source(self, source: KernelLike) -> int:
-        found = read_kernel(source)
+        found = read_source(source)
         found.data.decode()
         if found not in self.sources:
             self.sources.append(found)

@@ -3,9 +3,10 @@
 from __future__ import annotations
 
 import argparse
+import pathlib
 import sys
 
-from .cli import NOT_OK
+from .cli import NOT_OK, write
 from .lab import laboratory
 from .plot_command import add_picture, picture_of
 
@@ -26,9 +27,8 @@ def add_command(commands: argparse._SubParsersAction[argparse.ArgumentParser]) -
 
 def _do(parsed: argparse.Namespace) -> int:
     path = picture_of(parsed) if parsed.out is not None else None
-    report = laboratory(sys.stdin.read() if parsed.file == "-" else parsed.file)
-    sys.stdout.write(report.text)
-    sys.stdout.flush()
+    report = laboratory(sys.stdin.buffer.read() if parsed.file == "-" else pathlib.Path(parsed.file))
+    write(report.text)
     for failure in report.failures.values():
         print(failure, file=sys.stderr)
     if path is not None:

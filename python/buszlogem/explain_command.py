@@ -7,6 +7,7 @@ import argparse
 from .cli import REFUSED, write
 from .command_words import add_kernel, kernel_of
 from .errors import KernelError
+from .kernels import with_main
 from .run import check
 
 
@@ -19,12 +20,16 @@ def add_command(commands: argparse._SubParsersAction[argparse.ArgumentParser]) -
         " below the place, and an example of the mistake and its mending. Nothing is written of a text that is accepted.",
     )
     add_kernel(parser)
+    parser.add_argument(
+        "--functions", action="store_true", help="asks for no main: of a text whose functions --call or the steps of a day call"
+    )
     parser.set_defaults(do=_do)
 
 
 def _do(parsed: argparse.Namespace) -> int:
     try:
-        check(kernel_of(parsed))
+        kernel = kernel_of(parsed)
+        check(with_main(kernel) if parsed.functions else kernel)
     except KernelError as error:
         write(f"{error}\n")
         return REFUSED

@@ -151,6 +151,26 @@ def read_kernel(kernel: KernelLike, call: str | None = None, args: Sequence[int 
     return text if call is None else _with_call(text, call, args)
 
 
+def read_source(kernel: KernelLike) -> KernelText:
+    """Takes a kernel's text whose functions are called from elsewhere, as those of a laboratory's source are.
+
+    As `read_kernel`, but that a Python function with parameters, which no `main` can call by itself, gets a `main` that does
+    nothing.
+    """
+    if isinstance(kernel, KernelText) or not inspect.isfunction(kernel) or not inspect.signature(kernel).parameters:
+        return read_kernel(kernel)
+    return with_main(_text_of_function(kernel))
+
+
+def with_main(text: KernelText) -> KernelText:
+    """A text with a `main`: one that has none gets one behind it that does nothing."""
+    data = text.data if text.data.endswith(b"\n") else text.data + b"\n"
+    if _other_name(data.decode(errors="surrogateescape")) is not None:
+        return text
+    behind = ("def main():", "    pass")
+    return KernelText(data + "\n".join([*behind, ""]).encode(), (*text.origins, Origin(CALL, 1, 0, behind)))
+
+
 def _text_of(kernel: str | os.PathLike[str]) -> KernelText:
     if isinstance(kernel, str) and _is_text(kernel):
         return whole(kernel.encode(errors="surrogateescape"), _TEXT)

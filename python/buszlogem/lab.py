@@ -14,7 +14,7 @@ from .errors import BuszlogemError, ProgramError
 from .lab_report import LabReport, Names
 from .programs import start
 
-DayLike = Day | Mapping[str, Any] | str | os.PathLike[str]
+DayLike = Day | Mapping[str, Any] | str | bytes | os.PathLike[str]
 """What `laboratory` takes as a day."""
 
 WHY = {
@@ -59,8 +59,9 @@ def laboratory(day: DayLike, *, timeout: float | None = None) -> LabReport:
 
     Parameters
     ----------
-    day : Day, dict, str or path
-        A `Day`; a session as plain data; its text in JSON; or the file of one. Of a session docs/SESSIONS.md has the fields.
+    day : Day, dict, str, bytes or path
+        A `Day`; a session as plain data; its text in JSON, as bytes or as a str that begins with `{`; or the file of one. Of a
+        session docs/SESSIONS.md has the fields.
     timeout : float, optional
         The most seconds that it may take.
 
@@ -93,28 +94,32 @@ def laboratory(day: DayLike, *, timeout: float | None = None) -> LabReport:
     return LabReport.read(answer.out, session, _names(day, session))
 
 
-def _text(day: DayLike) -> str:
+def _text(day: DayLike) -> bytes:
     if isinstance(day, Day):
-        return day.json()
+        return day.json().encode()
     if isinstance(day, Mapping):
-        return json.dumps(day)
-    if isinstance(day, str) and day.lstrip().startswith("{"):
+        return json.dumps(day).encode()
+    if isinstance(day, bytes):
         return day
-    return pathlib.Path(day).read_text(encoding="utf-8")
+    if isinstance(day, str) and day.lstrip().startswith("{"):
+        # Half of a surrogate pair is for the program to refuse.
+        return day.encode(errors="surrogatepass")
+    return pathlib.Path(day).read_bytes()
 
 
 def _names(day: DayLike, session: Mapping[str, Any]) -> Names:
     if not isinstance(day, Day):
         return Names.of_places(session)
     files = tuple(source.origins[0].file for source in day.sources)
-    return Names(tuple(day.experiments), day.pipeline_names, files)
+    return Names(tuple(day.experiments), day.pipeline_names, files, tuple(day.sources))
 
 
-def _refusal(told: str, text: str, day: DayLike) -> SessionError:
+def _refusal(told: str, text: bytes, day: DayLike) -> SessionError:
     """The error of a line `session json` or `session PATH KIND`."""
     if told == "session json":
         return SessionError(told, "", "json", None, f"the text is no JSON: {_json_fault(text)}")
-    _, path, kind = told.split(" ")
+    # A key is told as it is written, with its spaces.
+    path, _, kind = told.removeprefix("session ").rpartition(" ")
     session = json.loads(text)
     value = _at(session, path)
     here = f"; here stands {_short(value)}" if value is not None else ""
@@ -122,12 +127,13 @@ def _refusal(told: str, text: str, day: DayLike) -> SessionError:
     return SessionError(told, path, kind, value, f"{named}: {kind}: {WHY[kind]}{here}")
 
 
-def _json_fault(text: str) -> str:
+def _json_fault(text: bytes) -> str:
     try:
         json.loads(text)
-    except ValueError as why:
+    except (ValueError, RecursionError) as why:
         return str(why)
-    return "a number beyond every float, half of a surrogate pair, or more than 127 levels"
+    # Python takes more than the program does.
+    return "NaN or Infinity, a number beyond every float, half of a surrogate pair, a byte order mark, or more than 127 levels"
 
 
 def _at(session: Any, path: str) -> object:
@@ -135,7 +141,7 @@ def _at(session: Any, path: str) -> object:
     if path == "session":
         return session
     found = session
-    for place, key in _PLACES.findall(path):
+    for place, key in _PLACES.findall(path) or [("", path)]:
         try:
             found = found[int(place)] if place else found[key]
         except (KeyError, IndexError, TypeError):

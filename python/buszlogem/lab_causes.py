@@ -9,7 +9,6 @@ from collections.abc import Iterable, Mapping, Sequence
 from typing import TYPE_CHECKING, Any
 
 from .errors import KernelError
-from .kernels import whole
 from .report import CYCLE_MU
 from .run import check
 
@@ -128,10 +127,8 @@ def _of_step(report: LabReport, run: LabRun, last: LabStep, step: Mapping[str, A
 
 
 def _of_preparation(report: LabReport, run: LabRun, stages: Mapping[str, Any]) -> Failure:
-    source = stages["source"]
-    text = whole(report.session["sources"][source].encode(), report.names.files[source])
     try:
-        canonical = check(text)
+        canonical = check(report.source(stages["source"]))
     except KernelError as error:
         why = f"its source is refused\n{error}"
         return Failure(run.number, run.name, FailureKind.SOURCE, why, error=error)

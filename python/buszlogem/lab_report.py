@@ -8,6 +8,7 @@ import functools
 from collections.abc import Iterable, Mapping, Sequence
 from typing import TYPE_CHECKING, Any, ClassVar, NamedTuple
 
+from .kernels import KernelText, whole
 from .report import Edge, Lost, Output, as_records, as_values, read_value
 
 if TYPE_CHECKING:
@@ -148,11 +149,14 @@ class Names:
         Their names.
     files : tuple of str
         The file of each source, `<source N>` of a text.
+    texts : tuple of KernelText
+        The sources with their lines where the user has them; empty where the session has their texts alone.
     """
 
     experiments: tuple[str, ...]
     pipelines: tuple[str, ...]
     files: tuple[str, ...]
+    texts: tuple[KernelText, ...] = ()
 
     @classmethod
     def of_places(cls, session: Mapping[str, Any]) -> Names:
@@ -219,6 +223,11 @@ class LabReport:
     def data(self) -> dict[str, Any]:
         """The datasets' values: an int, or an array of int64 of shape (n,) (a list where numpy isn't installed)."""
         return as_values({name: dataset.value for name, dataset in self.datasets.items()})
+
+    def source(self, place: int) -> KernelText:
+        """A source of the session, with its lines where the user has them."""
+        texts = self.names.texts
+        return texts[place] if texts else whole(self.session["sources"][place].encode(), self.names.files[place])
 
     @property
     def ok(self) -> bool:

@@ -4,6 +4,7 @@ from __future__ import annotations
 
 import argparse
 
+from .cli import write
 from .command_words import add_kernel, add_options, kernel_of, options_of
 from .errors import OptionError
 from .margin import Basis, margin
@@ -38,5 +39,5 @@ def _do(parsed: argparse.Namespace) -> int:
     if parsed.schedules is not None:
         schedules = parsed.schedules.split(",")
     found = margin(kernel_of(parsed), schedules=schedules, by=parsed.by, **options)
-    print(found)
+    write(f"{found}\n")
     return LATE if found.cost is None else 0

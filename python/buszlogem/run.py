@@ -9,7 +9,7 @@ from collections.abc import Mapping, Sequence
 from . import programs
 from .errors import OptionError, ProgramError
 from .faults import kernel_error
-from .kernels import KernelLike, KernelText, read_kernel
+from .kernels import KernelLike, KernelText, read_kernel, read_source
 from .options import TAKES, Edges, Recordings, sim_words
 from .report import Report
 
@@ -206,4 +206,4 @@ def ask(
 
 def check(kernel: KernelLike) -> str:
     """The canonical text of a kernel, by `artiq_sim check`; raises as `run` where the text is refused."""
-    return ask(("check",), read_kernel(kernel)).out
+    return ask(("check",), read_source(kernel)).out

@@ -4,10 +4,12 @@ from __future__ import annotations
 
 import argparse
 import concurrent.futures
+import io
 import re
 import sys
 from collections.abc import Sequence
 
+from .cli import write
 from .command_words import add_kernel, add_options, argument, kernel_of, options_of
 from .errors import OptionError
 from .plot_command import add_picture, picture_of
@@ -58,7 +60,9 @@ def _do(parsed: argparse.Namespace) -> int:
     with concurrent.futures.ThreadPoolExecutor(parsed.jobs) as pool:
         progress = not parsed.quiet and sys.stderr.isatty()
         table = sweep(kernel_of(parsed), grid(**values), pool, progress, resume=parsed.resume, **options)
-    table.write_csv(sys.stdout)
+    written = io.StringIO()
+    table.write_csv(written)
+    write(written.getvalue())
     if path is not None:
         table.plot(*columns).figure.savefig(path)
     return FAILED if table.failed or (parsed.strict and not table.ok) else 0

@@ -149,6 +149,16 @@ class Commands(SimCase):
         self.assertEqual(self.shell.run("buszlogem explain - < colon.py"), (1, SHOWN.replace("colon.py", "<stdin>"), ""))
         self.assertEqual(self.shell.run("buszlogem explain examples/too_late.py"), (0, "", ""))
 
+    def test_explain_of_functions_without_a_main(self):
+        (self.shell.folder / "shot.py").write_text("def shot(wait: int64):\n    at_mu(wait)\n    ttl0.on()")
+        status, out, _ = self.shell.run("buszlogem explain shot.py")
+        self.assertEqual((status, out.splitlines()[0][:25]), (1, "shot.py:1:16: type NoMain"))
+        self.assertEqual(self.shell.run("buszlogem explain --functions shot.py"), (0, "", ""))
+        self.assertEqual(self.shell.run("buszlogem explain --functions examples/too_late.py"), (0, "", ""))
+        (self.shell.folder / "shot.py").write_text("def shot(wait: int64):\n    at_mu(weit)\n")
+        status, out, _ = self.shell.run("buszlogem explain --functions shot.py")
+        self.assertEqual((status, out.splitlines()[0][:26]), (1, "shot.py:2:11: type Unknown"))
+
 
 if __name__ == "__main__":
     unittest.main()

@@ -6,7 +6,8 @@ import tempfile
 import unittest
 
 from installed import needs
-from support import EXAMPLES, SimCase
+from support import EXAMPLES, SimCase  # isort: skip  (it shows where the package lies)
+from later_kernels import Scan, once
 
 from buszlogem import Day, FailureKind, KernelError, LabReport, OptionError, RunStatus, SessionError, laboratory, steps
 
@@ -179,6 +180,10 @@ class Laboratory(SimCase):
         self.assertEqual([output.stamp for output in reports[0].cores[0].outs], [125_000, 125_200])
         self.assertEqual([report.runs[0].name for report in reports[:2]], ["only", "experiment 0"])
 
+    def test_a_function_with_parameters(self):
+        report = laboratory(one_experiment([steps.kernel("once", 1000), steps.kernel("once", 2000)], source=once))
+        self.assertEqual([output.stamp for output in report.cores[0].outs], [1000, 2000])
+
     def test_edges_and_datasets(self):
         counting = (
             "def main():\n    core.break_realtime()\n    end = in0.gate_rising_mu(1000)\n"
@@ -211,6 +216,8 @@ class Laboratory(SimCase):
             (lambda it: it["experiments"][0]["run"].append({"pause": False}), "experiments[0].run[1].pause", "Range", False),
             (lambda it: it.update(cots=8), "cots", "Unknown", 8),
             (lambda it: it["pipelines"][0].update(edges=[[24, 9]]), "pipelines[0].edges[0]", "Range", [24, 9]),
+            (lambda it: it.update({"the cost": 8}), "the cost", "Unknown", 8),
+            (lambda it: it.update({"": 8}), "", "Unknown", 8),
         ]
         for damage, path, kind, value in rows:
             session = day.session()
@@ -221,9 +228,23 @@ class Laboratory(SimCase):
             self.assertIn(path, str(raised.exception))
 
     def test_a_text_that_is_no_json(self):
+        rows = [
+            ('{"workers": 1', "Expecting ',' delimiter"),
+            (b"", "Expecting value"),
+            (b'{"workers": "\xff"}', "can't decode byte 0xff"),
+            ({"workers": float("nan")}, "NaN or Infinity"),
+            ('{"workers": "\ud800"}', ""),
+        ]
+        for text, said in rows:
+            with self.subTest(text), self.assertRaises(SessionError) as raised:
+                laboratory(text)
+            self.assertEqual((raised.exception.kind, raised.exception.told), ("json", "session json"))
+            self.assertIn(said, str(raised.exception))
+
+    def test_a_text_of_something_else(self):
         with self.assertRaises(SessionError) as raised:
-            laboratory('{"workers": 1')
-        self.assertEqual((raised.exception.kind, raised.exception.told), ("json", "session json"))
+            laboratory(b"[1]")
+        self.assertEqual((raised.exception.path, raised.exception.kind), ("session", "Type"))
 
     def test_a_fault_is_told_with_the_names_of_the_day(self):
         with self.assertRaises(SessionError) as raised:
@@ -284,6 +305,11 @@ class Failures(SimCase):
         self.assertEqual((failure.error.line, failure.error.column, failure.error.kind), (3, 5, "type Unknown"))
         self.assertIn(f"{file}:3:5: type Unknown: ", str(failure))
         self.assertIn("    ttl16.on()\n    ^", str(failure))
+
+    def test_a_refused_function(self):
+        failure = laboratory(one_experiment([steps.kernel("misspelt")], source=Scan.misspelt)).failures[0]
+        self.assertEqual((failure.error.line, failure.error.source), (25, "        tll0.on()"))
+        self.assertTrue(failure.error.file.endswith("later_kernels.py"), failure.error.file)
 
     def test_the_65th_run(self):
         # Run 0 submits 16 runs, and so do runs 1 and 2: 49. Run 3 submits 15 more, and its 16th submission is one too many.

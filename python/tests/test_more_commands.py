@@ -73,6 +73,12 @@ class Words(unittest.TestCase):
 
 
 class Commands(ShellCase):
+    def test_a_sink_that_is_full(self):
+        self.write("later.py", STEPS.replace("1600", "1700"))
+        for words in ("margin steps.py", "compare steps.py later.py", "sweep steps.py --over cost=0,8"):
+            with self.subTest(words):
+                self.assertEqual(self.shell.run(f"buszlogem {words} > /dev/full")[0], 4)
+
     @needs("matplotlib")
     def test_plot(self):
         words = "--edges 24:1990:r,24:2040:r"
@@ -194,6 +200,10 @@ class DayCommand(ShellCase):
         status, out, err = self.shell.run("buszlogem day day.json")
         self.assertEqual((status, out), (1, ""))
         self.assertEqual(err, "workers: Range: a number, a length or a spelling is out of its range; here stands 0\n")
+        self.assertEqual(self.shell.run("echo '[1]' | buszlogem day -")[:2], (1, ""))
+        status, out, err = self.shell.run("printf '\\377' | buszlogem day -")
+        self.assertEqual((status, out), (1, ""))
+        self.assertTrue(err.startswith("the text is no JSON: "), err)
 
     @needs("matplotlib")
     def test_a_picture(self):
