@@ -23,7 +23,8 @@ hand, ends with status 1 where something is otherwise than written, and says whe
   its order, each with the crates that it stands on and clauses that it has. Each word in backquotes in CONTRACTS.md
   stands in the code of the crate that its heading names, and in the map of BELIEVING.md in the files beside it. The
   numbers of definitions and lines there are those of definitions.py, to a tenth. The edits that WRONG_BODIES.md names
-  stand in the gate, or in edits/ where it says so.
+  stand in the gate, or in edits/ where it says so. The files that RECIPES.md names for another number of mu in a cycle have
+  as many bare 8s as it says, and it names each file that has the usage line of artiq_sim.
 - The README has at most 12 KB, no cell of a table more than forty words.
 - Each script of docs/ runs. What needs a program that isn't installed is told as not tried, at the end.
 """
@@ -51,7 +52,7 @@ SCRIPTS = {
     "what_stands_on.py": (["rtio_core"], None),
 }
 # Paths, but for those of any crate, NAME.
-BELOW_CRATES = re.compile(r"`((?!docs/|bench/|examples/|completions/|python/)(?![^`]*NAME)\w+/[\w./-]+)`")
+BELOW_CRATES = re.compile(r"`((?!docs/|bench/|examples/|completions/|python/|launch/|edits/)(?![^`]*NAME)\w+/[\w./-]+)`")
 PATH = re.compile(r"`((?![^`]*NAME)(?:docs|crates|examples|bench|bin|launch|completions|python)/[\w./-]+)`")
 
 
@@ -258,6 +259,21 @@ class Checker:
             if files and all(file.exists() for file in files):
                 self.words(f"docs/BELIEVING.md: {cells[1]}", cells[2], words_in(files))
 
+    def recipes(self):
+        """The bare numbers, and the places of the usage line, that RECIPES.md counts up."""
+        page = (ROOT / "docs/RECIPES.md").read_text()
+        for cell, times in re.findall(r"^\| (.*) \| a bare 8, in all (\d+) times", page, re.M):
+            texts = [(ROOT / "crates" / name).read_text() for name in re.findall(r"`([^`]+)`", cell)]
+            found = sum(len(re.findall(r"\b8\b", text)) for text in texts)
+            self.expect("docs/RECIPES.md", "bare 8s", found, int(times))
+        command = page.partition("## A new command")[2].partition("\n## ")[0]
+        usage = re.search(r'b"(usage: artiq_sim [^"\\]*)', (ROOT / "crates/sim_program/src/top.rt").read_text())
+        places = ("crates/*/src/*.rt", "crates/*/specs/*.antt", "crates/*/data/*.rows", "crates/*/stdout", "docs/*.md", "bench/*.py")
+        for path in sorted(path for place in places for path in ROOT.glob(place)):
+            if usage and usage[1] in path.read_text():
+                name = str(path.relative_to(ROOT)).removeprefix("crates/")
+                self.expect("docs/RECIPES.md", f"names {name}, which has the usage line", f"`{name}`" in command, True)
+
 
 def words_in(places):
     """The words of some files, or of all code, definitions and proofs in some folders."""
@@ -294,6 +310,7 @@ def main():
         checker.edits()
         checker.names()
         checker.promises()
+        checker.recipes()
         checker.scripts()
     for line in checker.not_tried:
         print(f"not tried: {line}")
