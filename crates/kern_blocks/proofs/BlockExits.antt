@@ -1,14 +1,14 @@
 -- What the reading functions of blocks need at their exits.
 use Rattle.std.proofs.Common.{◌≡◌, ◌≢◌, ℕ, suc, ◌-◌, ◌≤◌, sym, ◌∙◌, ap, subst, arith, length, get_or, drop}
-use Rattle.std.specs.Prelude.{Result}
+use Rattle.std.specs.Prelude.{Option, Result}
 use Rattle.kern_lexer.specs.declared.token.Key.TheVariants as K
 use Rattle.kern_lexer.specs.declared.token.TokenKind.TheVariants as T
 use Rattle.kern_syntax.specs.declared.statement.Block.{Block}
 use Rattle.kern_syntax.specs.declared.statement.Elif.{Elif}
 use Rattle.kern_syntax.specs.declared.statement.Stmt.{Stmt}
 use Rattle.kern_syntax.specs.TreeOf.{block_of}
-use Rattle.kern_expressions.specs.declared.read_end.ReadEnd.{ReadEnd}
 use Rattle.kern_expressions.specs.declared.tokens.Tokens.{Tokens}
+use Rattle.kern_expressions.specs.declared.tokens.WrongToken.{WrongToken}
 use Rattle.kern_grammar.specs.BlockPlans.{block_by, block_plan, elif_plan, statement_plan, line_plan}
 use Rattle.kern_blocks.specs.BlockSteps.{as_block, elif_line, elif_parts}
 use Rattle.kern_grammar.specs.Plans.{peek, run}
@@ -23,7 +23,7 @@ abbrev pub first_line : Tokens → ℕ
 first_line tokens = (get_or tokens.list.now 0 no_token).line
 
 -- a block on the line of its header
-pub one_line_block : (room : ℕ) (tokens : Tokens) (outcome : Result (Block × Tokens) ReadEnd) → 1 ≤ length tokens.list.now → (first_kind tokens ≡ T.Newline → ⊥) → GivesTaken block_of outcome (perform (peek (λ t. simple_plan (as_block (first_line tokens)) (opening t.symbol))) (lexemes_left tokens)) → GivesTaken block_of outcome (run (block_plan room (run (line_plan room))) (lexemes_left tokens))
+pub one_line_block : (room : ℕ) (tokens : Tokens) (outcome : Result (Option Block × Tokens) WrongToken) → 1 ≤ length tokens.list.now → (first_kind tokens ≡ T.Newline → ⊥) → GivesTaken block_of outcome (perform (peek (λ t. simple_plan (as_block (first_line tokens)) (opening t.symbol))) (lexemes_left tokens)) → GivesTaken block_of outcome (run (block_plan room (run (line_plan room))) (lexemes_left tokens))
 one_line_block room tokens outcome h n g =
     let take = run (line_plan room) in
     let first = first_as tokens (first_kind tokens) in
@@ -35,7 +35,7 @@ one_line_block room tokens outcome h n g =
     subst (GivesTaken block_of outcome) same g
 
 -- a statement at the deepest nesting
-pub deepest_statement : (room : ℕ) (tokens : Tokens) (outcome : Result (Stmt × Tokens) ReadEnd) → room ≡ 0 → 1 ≤ length tokens.list.now → GivesTaken line_of_statement outcome (perform (peek (λ t. simple_plan (on (first_line tokens)) (opening t.symbol))) (lexemes_left tokens)) → GivesTaken line_of_statement outcome (run (line_plan room) (lexemes_left tokens))
+pub deepest_statement : (room : ℕ) (tokens : Tokens) (outcome : Result (Option Stmt × Tokens) WrongToken) → room ≡ 0 → 1 ≤ length tokens.list.now → GivesTaken line_of_statement outcome (perform (peek (λ t. simple_plan (on (first_line tokens)) (opening t.symbol))) (lexemes_left tokens)) → GivesTaken line_of_statement outcome (run (line_plan room) (lexemes_left tokens))
 deepest_statement room tokens outcome z h g =
     let first = first_as tokens (first_kind tokens) in
     let same =
@@ -46,7 +46,7 @@ deepest_statement room tokens outcome z h g =
     subst (GivesTaken line_of_statement outcome) same g
 
 -- a statement that may have blocks
-pub any_statement : (room : ℕ) (tokens : Tokens) (outcome : Result (Stmt × Tokens) ReadEnd) → room ≢ 0 → 1 ≤ length tokens.list.now → GivesTaken line_of_statement outcome (perform (peek (λ t. statement_plan (room - 1) (run (line_plan (room - 1))) (first_line tokens) (opening t.symbol))) (lexemes_left tokens)) → GivesTaken line_of_statement outcome (run (line_plan room) (lexemes_left tokens))
+pub any_statement : (room : ℕ) (tokens : Tokens) (outcome : Result (Option Stmt × Tokens) WrongToken) → room ≢ 0 → 1 ≤ length tokens.list.now → GivesTaken line_of_statement outcome (perform (peek (λ t. statement_plan (room - 1) (run (line_plan (room - 1))) (first_line tokens) (opening t.symbol))) (lexemes_left tokens)) → GivesTaken line_of_statement outcome (run (line_plan room) (lexemes_left tokens))
 any_statement room tokens outcome n h g =
     let first = first_as tokens (first_kind tokens) in
     let below = room - 1 in
@@ -59,7 +59,7 @@ any_statement room tokens outcome n h g =
     subst (GivesTaken line_of_statement outcome) same g
 
 -- an `elif` branch
-pub elif_branch : (room : ℕ) (tokens rest : Tokens) (outcome : Result (Elif × Tokens) ReadEnd) → 1 ≤ length tokens.list.now → first_kind tokens ≡ T.Key K.Elif → lexemes_left rest ≡ drop 1 (lexemes_left tokens) → GivesTaken elif_line outcome (perform (elif_parts room (first_line tokens)) (lexemes_left rest)) → GivesTaken elif_line outcome (run (elif_plan room (run (line_plan room))) (lexemes_left tokens))
+pub elif_branch : (room : ℕ) (tokens rest : Tokens) (outcome : Result (Option Elif × Tokens) WrongToken) → 1 ≤ length tokens.list.now → first_kind tokens ≡ T.Key K.Elif → lexemes_left rest ≡ drop 1 (lexemes_left tokens) → GivesTaken elif_line outcome (perform (elif_parts room (first_line tokens)) (lexemes_left rest)) → GivesTaken elif_line outcome (run (elif_plan room (run (line_plan room))) (lexemes_left tokens))
 elif_branch room tokens rest outcome h k l g =
     let plan = elif_plan room (run (line_plan room)) in
     let e = front tokens rest (T.Key K.Elif) h k l in

@@ -1,21 +1,18 @@
 -- What a header gives is what its plan goes on with.
-use Rattle.std.proofs.Common.{◌≡◌, ℕ, Bool, true, false, List, refl, sym, ◌∙◌, subst}
-use Rattle.std.specs.Prelude.{Option, Some, Result, Ok, Err, codes}
+use Rattle.std.proofs.Common.{◌≡◌, ℕ, Bool, true, false, List, [], ◌∷◌, refl, ◌∙◌}
+use Rattle.std.specs.Prelude.{Option, Some, Ok, Err, codes}
 use Rattle.kern_lexer.specs.Symbols.{Symbol, Lexeme}
 use Rattle.kern_syntax.specs.Tree.{Expression}
+use Rattle.kern_syntax.specs.Tree as Tree
 use Rattle.kern_statements.specs.declared.headers.WithItem.{WithItem}
 use Rattle.kern_statements.specs.declared.headers.WithItem.TheVariants as W
-use Rattle.kern_grammar.specs.BlockPlans.{line_plan, range_plan, with_plan}
-use Rattle.kern_blocks.specs.BlockSteps.{with_block_plan, with_rest}
+use Rattle.kern_grammar.specs.BlockPlans.{a_block, block_phrase, block_plan, line_plan, no_stop, range_plan, with_plan}
+use Rattle.kern_blocks.specs.BlockSteps.{ConditionalTree, colon_block, conditional, with_block_plan, with_rest}
 use Rattle.kern_statements.specs.Headers.{BoundTrees, bracketed_bounds_plan, bounds_plan, quoted_recording_plan, recording_name_plan, with_head, with_item_plan}
-use Rattle.kern_grammar.specs.Plans.{Taken, ◌>>=◌, Plan, done, token, run}
+use Rattle.kern_grammar.specs.Plans.{Taken, Taker, ◌>>=◌, Plan, done, token, peek, part, run}
 use Rattle.kern_grammar.specs.SimplePlans.{take_expression, an_expression}
-use Rattle.kern_expressions.specs.TakenBy.{IsTakenEnd, GivesTaken, first_seen, perform}
-use Rattle.kern_expressions.specs.declared.read_end.ReadEnd.{ReadEnd}
-use Rattle.kern_expressions.specs.declared.tokens.Tokens.{Tokens}
-use Rattle.kern_statements.proofs.ManyLists.{end_passes}
-use Rattle.kern_grammar.proofs.Taking.{then_ok}
-use Rattle.kern_grammar.specs.Views.{a_text, a_with_item, close_parenthesis, comma_or_close, dot, in_key, open_parenthesis, the_name}
+use Rattle.kern_expressions.specs.TakenBy.{first_seen, perform}
+use Rattle.kern_grammar.specs.Views.{a_text, a_with_item, close_parenthesis, colon, comma_or_close, dot, in_key, open_parenthesis, the_name}
 use Rattle.kern_grammar.specs.Views as V
 
 -- a plan, and another that goes on with what it gives
@@ -26,11 +23,34 @@ followed_bind : {X A B : Type 0} (r : Taken X) (p : X × List Lexeme → Taken A
 followed_bind (Ok x) p next q h = h x
 followed_bind (Err left) p next q h = refl
 
-followed_token : {A B V : Type 0} (view : Symbol → Option V) (p : V → Plan A) (next : A → Plan B) (q : V → Plan B) → ((v : V) → Followed (p v) next (q v)) → Followed (token view p) next (token view q)
+pub followed_token : {A B V : Type 0} (view : Symbol → Option V) (p : V → Plan A) (next : A → Plan B) (q : V → Plan B) → ((v : V) → Followed (p v) next (q v)) → Followed (token view p) next (token view q)
 followed_token view p next q h tokens = followed_bind (first_seen view tokens) (λ v. perform (p v.0) v.1) (λ x. perform (next x.0) x.1) (λ v. perform (q v.0) v.1) (λ v. h v.0 v.1)
 
 followed_expression : {A B : Type 0} (room : ℕ) (p : Expression → Plan A) (next : A → Plan B) (q : Expression → Plan B) → ((e : Expression) → Followed (p e) next (q e)) → Followed (an_expression room p) next (an_expression room q)
 followed_expression room p next q h tokens = followed_bind (take_expression room tokens) (λ v. perform (p v.0) v.1) (λ x. perform (next x.0) x.1) (λ v. perform (q v.0) v.1) (λ v. h v.0 v.1)
+
+pub followed_part : {X A B : Type 0} (phrase stop : X → List Lexeme → Type 0) (take : Taker X) (p : X → Plan A) (next : A → Plan B) (q : X → Plan B) → ((x : X) → Followed (p x) next (q x)) → Followed (part phrase stop take p) next (part phrase stop take q)
+followed_part phrase stop take p next q h tokens = followed_bind (take tokens) (λ v. perform (p v.0) v.1) (λ x. perform (next x.0) x.1) (λ v. perform (q v.0) v.1) (λ v. h v.0 v.1)
+
+followed_block : {A B : Type 0} (room : ℕ) (p : Tree.Block → Plan A) (next : A → Plan B) (q : Tree.Block → Plan B) → ((b : Tree.Block) → Followed (p b) next (q b)) → Followed (a_block room (run (line_plan room)) p) next (a_block room (run (line_plan room)) q)
+followed_block room p next q h =
+    let take = run (block_plan room (run (line_plan room))) in
+    followed_token colon (λ seen. part (block_phrase room) no_stop take p) next (λ seen. part (block_phrase room) no_stop take q)
+    (λ v. followed_part (block_phrase room) no_stop take p next q h)
+
+-- a block behind its colon
+pub followed_colon : {B : Type 0} (room : ℕ) (next : Tree.Block → Plan B) → Followed (colon_block room) next (a_block room (run (line_plan room)) next)
+followed_colon room next = followed_block room (λ b. done b) next next (λ b tokens. refl)
+
+-- a condition and its block
+pub followed_condition : {B : Type 0} (room : ℕ) (next : ConditionalTree → Plan B) → Followed (conditional room) next (an_expression 16 (λ c. a_block room (run (line_plan room)) (λ b. next (c, b))))
+followed_condition room next =
+    followed_expression 16 (λ c. a_block room (run (line_plan room)) (λ b. done (c, b))) next (λ c. a_block room (run (line_plan room)) (λ b. next (c, b)))
+    (λ c. followed_block room (λ b. done (c, b)) next (λ b. next (c, b)) (λ b tokens. refl))
+
+pub followed_peek : {A B : Type 0} (p : Lexeme → Plan A) (next : A → Plan B) (q : Lexeme → Plan B) → ((t : Lexeme) → Followed (p t) next (q t)) → Followed (peek p) next (peek q)
+followed_peek p next q h [] = refl
+followed_peek p next q h (t ∷ rest) = h t (t ∷ rest)
 
 -- the bounds of a `for` as a pair
 abbrev pub pair_bounds : Option Expression → Expression → Plan BoundTrees
@@ -65,15 +85,8 @@ followed_head next V.recording =
     (λ v. followed_token a_text (λ text. token close_parenthesis (λ seen. the_item (W.Record text))) next (λ text. token close_parenthesis (λ seen. next (W.Record text)))
     (λ text. followed_token close_parenthesis (λ seen. the_item (W.Record text)) next (λ seen. next (W.Record text)) (λ v tokens. refl)))))
 
-pub followed_item : {B : Type 0} (next : WithItem → Plan B) → Followed (with_item_plan the_item) next (with_item_plan next)
+followed_item : {B : Type 0} (next : WithItem → Plan B) → Followed (with_item_plan the_item) next (with_item_plan next)
 followed_item next = followed_token a_with_item (with_head the_item) next (with_head next) (followed_head next)
-
--- what goes on behind a header, and where the header stops
-pub goes_on : {X A B : Type 0} (view : X → B) (outcome : Result (X × Tokens) ReadEnd) (p : Plan A) (next : A → Plan B) (q : Plan B) → Followed p next q → (tokens rest : List Lexeme) (a : A) → perform p tokens ≡ Ok (a, rest) → GivesTaken view outcome (perform (next a) rest) → GivesTaken view outcome (perform q tokens)
-goes_on view outcome p next q f tokens rest a h g = subst (GivesTaken view outcome) (sym (f tokens ∙ then_ok (perform p tokens) a rest (λ x. perform (next x.0) x.1) h)) g
-
-pub stops_there : {A B : Type 0} (end : ReadEnd) (p : Plan A) (next : A → Plan B) (q : Plan B) → Followed p next q → (tokens : List Lexeme) → IsTakenEnd end (perform p tokens) → IsTakenEnd end (perform q tokens)
-stops_there end p next q f tokens h = subst (IsTakenEnd end) (sym (f tokens)) (end_passes end (perform p tokens) (λ x. perform (next x.0) x.1) h)
 
 -- the plan of a `with` goes on with its item
 with_head-plan : (room line : ℕ) (i : V.WithItem) (tokens : List Lexeme) → perform (with_plan room (run (line_plan room)) line i) tokens ≡ perform (with_head (with_rest room line) i) tokens
@@ -85,6 +98,7 @@ same_behind : {X B : Type 0} (r : Taken X) (p q : X × List Lexeme → Taken B) 
 same_behind (Ok x) p q h = h x
 same_behind (Err left) p q h = refl
 
-pub with_plan-item : (room line : ℕ) (tokens : List Lexeme) → perform (with_block_plan room line) tokens ≡ perform (with_item_plan (with_rest room line)) tokens
-with_plan-item room line tokens =
+pub with_read : (room line : ℕ) (tokens : List Lexeme) → perform (with_block_plan room line) tokens ≡ (perform (with_item_plan the_item) tokens >>= λ i. perform (with_rest room line i.0) i.1)
+with_read room line tokens =
     same_behind (first_seen a_with_item tokens) (λ v. perform (with_plan room (run (line_plan room)) line v.0) v.1) (λ v. perform (with_head (with_rest room line) v.0) v.1) (λ v. with_head-plan room line v.0 v.1)
+    ∙ followed_item (with_rest room line) tokens

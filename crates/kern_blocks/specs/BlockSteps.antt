@@ -1,17 +1,18 @@
 -- For the proofs alone: the steps of the code that reads blocks,
 -- which are parts of the plans, and what its values stand for.
-use Rattle.std.specs.Prelude.{ℕ, List, [], ◌∷◌, Option, Some, codes, Ok}
+use Rattle.std.specs.Prelude.{ℕ, [], ◌∷◌, Option, Some, codes}
 use Rattle.kern_syntax.specs.declared.statement.Elif.{Elif}
 use Rattle.kern_syntax.specs.declared.statement.Handler.{Handler}
 use Rattle.kern_lexer.specs.Bytes.{Bytes}
 use Rattle.kern_syntax.specs.Tree.{Expression, if_then, while_do, try_do, line_then}
 use Rattle.kern_syntax.specs.Tree as Tree
-use Rattle.kern_syntax.specs.TreeOf.{elif_of, handler_of}
+use Rattle.kern_syntax.specs.TreeOf.{block_of, elif_of, expression_of, handler_of}
 use Rattle.kern_grammar.specs.BlockPlans.{line_phrase, line_stop, is_line, block_of_lines, a_block, ElifLine}
 use Rattle.kern_grammar.specs.BlockPlans.{branches_plan, ExceptLine, handlers_plan, with_plan, range_plan, line_plan}
 use Rattle.kern_statements.specs.declared.headers.WithItem.{WithItem}
 use Rattle.kern_statements.specs.declared.headers.WithItem.TheVariants as W
-use Rattle.kern_grammar.specs.Plans.{Taken, ◌>>=◌, Plan, done, token, part, run, many, EachOf, EachEnds}
+use Rattle.kern_blocks.specs.declared.parts.Conditional.{Conditional}
+use Rattle.kern_grammar.specs.Plans.{Plan, done, token, part, run, many, EachOf, EachEnds}
 use Rattle.kern_grammar.specs.SimplePlans.{an_expression, Line}
 use Rattle.kern_grammar.specs.Views.{dedented, indented, in_key, a_name, the_name}
 use Rattle.kern_grammar.specs.Views.{open_parenthesis, comma_or_close, a_with_item}
@@ -25,6 +26,20 @@ abbrev pub indented_plan : (room : ℕ) → Plan Tree.Block
 indented_plan room =
     token indented (λ seen. part (line_phrase room) line_stop (run (line_plan room)) (λ first.
     part (EachOf (line_phrase room)) (EachEnds line_stop is_line) (many is_line (run (line_plan room))) (λ more. token dedented (λ seen. done (block_of_lines (first ∷ more))))))
+
+-- a colon and a block
+abbrev pub colon_block : (room : ℕ) → Plan Tree.Block
+colon_block room = a_block room (run (line_plan room)) (λ b. done b)
+
+-- a condition and the block that it decides on
+abbrev pub ConditionalTree : Type 0
+ConditionalTree = Expression × Tree.Block
+
+abbrev pub conditional_of : Conditional → ConditionalTree
+conditional_of c = (expression_of c.condition, block_of c.body)
+
+abbrev pub conditional : (room : ℕ) → Plan ConditionalTree
+conditional room = an_expression 16 (λ c. a_block room (run (line_plan room)) (λ b. done (c, b)))
 
 -- statements behind their keyword
 abbrev pub if_plan : (room line : ℕ) → Plan Line
@@ -64,12 +79,6 @@ abbrev pub with_statement : WithItem → Tree.Block → Tree.Statement
 with_statement W.Parallel b = Tree.parallel b
 with_statement W.Sequential b = Tree.sequential b
 with_statement (W.Record text) b = Tree.record_as text b
-
--- an item before others that are taken
-abbrev pub and_more : {X : Type 0} → X → Taken (List X) → Taken (List X)
-and_more x more = do
-  xs ← more
-  Ok (x ∷ xs.0, xs.1)
 
 -- branches behind their keywords
 abbrev pub elif_parts : (room line : ℕ) → Plan ElifLine

@@ -1,27 +1,20 @@
 // Reading the statements that have branches, `if` and `try`, from behind their keywords.
 
 ghost use Rattle.std.specs.Prelude.{◌≡◌, map, option_map};
-ghost use Rattle.kern_grammar.specs.BlockPlans.{elif_plan, else_plan, except_plan, handlers_of_lines, is_elif, is_else, is_except, line_plan, otherwise_of};
+ghost use Rattle.kern_grammar.specs.BlockPlans.{elif_plan, else_plan, except_plan, is_elif, is_else, is_except, line_plan};
 ghost use Rattle.kern_grammar.specs.Plans.{many, maybe, run};
-ghost use Rattle.kern_blocks.specs.BlockSteps.{and_more, elif_line, elif_parts, else_block, except_line, except_parts, if_plan, try_plan};
+ghost use Rattle.kern_blocks.specs.BlockSteps.{elif_line, elif_parts, else_block, except_line, except_parts, if_plan, try_plan};
 ghost use Rattle.kern_expressions.specs.TakenBy.{GivesTaken, begins_with, lexemes_left, perform};
-ghost use Rattle.kern_statements.specs.LineSteps.{line_of_statement, statement_of};
-ghost use Rattle.kern_syntax.specs.Tree.{if_then, try_do};
-ghost use Rattle.kern_syntax.specs.TreeOf.{block_of, expression_of};
+ghost use Rattle.kern_statements.specs.LineSteps.{line_of_statement};
+ghost use Rattle.kern_statements.specs.Several.{several};
+ghost use Rattle.kern_syntax.specs.TreeOf.{block_of};
 
-use crate::block::block_at;
-use kern_expressions::{ReadEnd, Tokens, colon_at, expression_at, name_at};
+use crate::block::{colon_block_at, conditional_at};
+use crate::parts::{elif_branch, else_branch, handler_branch, if_statement, try_statement};
+use kern_expressions::{Tokens, WrongToken, name_at, pushed};
 use kern_lexer::{Key, TokenKind};
-use kern_syntax::{Block, Elif, Expr, Handler, Stmt, StmtKind};
+use kern_syntax::{Block, Elif, Handler, Stmt};
 use std::alloc::Global;
-
-// An `if` with its branches.
-fn if_kind(condition: Expr, body: Block, branches: Vec<Elif>, last: Option<Block>) -> StmtKind
-    ensures { statement_of result ≡ if_then (expression_of condition) (block_of body)
-        (otherwise_of (map elif_line branches.items) (option_map block_of last)) }
-{
-    StmtKind::If(condition, body, branches, last)
-}
 
 /// An `if` behind its keyword, with its branches.
 #[cycle(blocks)]
@@ -30,20 +23,17 @@ pub fn if_at<'a>(
     room: u32,
     line: u32,
     tokens: Tokens<'a>,
-) -> Result<(Stmt, Tokens<'a>), ReadEnd<'a>>
+) -> Result<(Option<Stmt>, Tokens<'a>), WrongToken<'a>>
     ensures { GivesTaken line_of_statement result (perform (if_plan room line) (lexemes_left tokens.entry)) }
 {
-    let (condition, rest) = expression_at(alloc, 16, tokens)?;
-    let rest = colon_at(rest)?;
-    let (body, rest) = block_at(alloc, room, rest)?;
+    let (conditional, rest) = conditional_at(alloc, room, tokens)?;
     let (branches, rest) = elifs_at(alloc, room, rest)?;
     let (last, rest) = else_at(alloc, room, rest)?;
-    let kind = if_kind(condition, body, branches, last);
-    Ok((Stmt { line, kind }, rest))
+    Ok((if_statement(line, conditional, branches, last), rest))
 }
 
-/// Whether an `elif` branch follows.
-pub fn begins_elif(tokens: Tokens) -> bool
+// Whether an `elif` branch follows.
+fn begins_elif(tokens: Tokens) -> bool
     ensures { result ≡ begins_with is_elif (lexemes_left tokens.entry) }
 {
     match tokens.list {
@@ -58,15 +48,15 @@ fn elifs_at<'a>(
     alloc: Global,
     room: u32,
     tokens: Tokens<'a>,
-) -> Result<(Vec<Elif>, Tokens<'a>), ReadEnd<'a>>
+) -> Result<(Option<Vec<Elif>>, Tokens<'a>), WrongToken<'a>>
     ensures { GivesTaken (λ v. map elif_line v.items) result
         (many is_elif (run (elif_plan room (run (line_plan room)))) (lexemes_left tokens.entry)) }
 {
-    let mut branches = Vec::new(alloc);
+    let mut branches = Some(Vec::new(alloc));
     let mut rest = tokens;
     'branches: while begins_elif(rest) {
         let (branch, behind) = elif_at(alloc, room, rest)?;
-        branches.push(branch)?;
+        branches = pushed(branches, branch);
         rest = behind;
     }
     Ok((branches, rest))
@@ -78,18 +68,18 @@ fn elif_at<'a>(
     alloc: Global,
     room: u32,
     tokens: Tokens<'a>,
-) -> Result<(Elif, Tokens<'a>), ReadEnd<'a>>
+) -> Result<(Option<Elif>, Tokens<'a>), WrongToken<'a>>
     ensures { GivesTaken elif_line result
         (run (elif_plan room (run (line_plan room))) (lexemes_left tokens.entry)) }
 {
     match tokens.list {
-        [] => Err(ReadEnd::Fault(tokens)),
+        [] => Err(WrongToken { left: tokens }),
         [first, ..] => match first.kind {
             TokenKind::Key(key) => match key {
                 Key::Elif => elif_parts_at(alloc, room, first.line, tokens.tail()),
-                _ => Err(ReadEnd::Fault(tokens)),
+                _ => Err(WrongToken { left: tokens }),
             },
-            _ => Err(ReadEnd::Fault(tokens)),
+            _ => Err(WrongToken { left: tokens }),
         },
     }
 }
@@ -101,18 +91,11 @@ fn elif_parts_at<'a>(
     room: u32,
     line: u32,
     tokens: Tokens<'a>,
-) -> Result<(Elif, Tokens<'a>), ReadEnd<'a>>
+) -> Result<(Option<Elif>, Tokens<'a>), WrongToken<'a>>
     ensures { GivesTaken elif_line result (perform (elif_parts room line) (lexemes_left tokens.entry)) }
 {
-    let (condition, rest) = expression_at(alloc, 16, tokens)?;
-    let rest = colon_at(rest)?;
-    let (body, rest) = block_at(alloc, room, rest)?;
-    let branch = Elif {
-        line,
-        condition,
-        body,
-    };
-    Ok((branch, rest))
+    let (conditional, rest) = conditional_at(alloc, room, tokens)?;
+    Ok((elif_branch(line, conditional), rest))
 }
 
 // The `else` branch of an `if`, or none. No `elif` follows here, since each was taken before.
@@ -121,19 +104,19 @@ fn else_at<'a>(
     alloc: Global,
     room: u32,
     tokens: Tokens<'a>,
-) -> Result<(Option<Block>, Tokens<'a>), ReadEnd<'a>>
+) -> Result<(Option<Option<Block>>, Tokens<'a>), WrongToken<'a>>
     ensures { GivesTaken (option_map block_of) result
         (maybe is_else is_elif (run (else_plan room (run (line_plan room)))) (lexemes_left tokens.entry)) }
 {
     match tokens.list {
-        [] => Ok((None, tokens)),
+        [] => Ok((Some(None), tokens)),
         [first, ..] => match first.kind {
             TokenKind::Key(key) => match key {
                 Key::Else => else_block_at(alloc, room, tokens.tail()),
-                Key::Elif => Err(ReadEnd::Fault(tokens)),
-                _ => Ok((None, tokens)),
+                Key::Elif => Err(WrongToken { left: tokens }),
+                _ => Ok((Some(None), tokens)),
             },
-            _ => Ok((None, tokens)),
+            _ => Ok((Some(None), tokens)),
         },
     }
 }
@@ -144,19 +127,11 @@ fn else_block_at<'a>(
     alloc: Global,
     room: u32,
     tokens: Tokens<'a>,
-) -> Result<(Option<Block>, Tokens<'a>), ReadEnd<'a>>
+) -> Result<(Option<Option<Block>>, Tokens<'a>), WrongToken<'a>>
     ensures { GivesTaken (option_map block_of) result (perform (else_block room) (lexemes_left tokens.entry)) }
 {
-    let rest = colon_at(tokens)?;
-    let (body, rest) = block_at(alloc, room, rest)?;
-    Ok((Some(body), rest))
-}
-
-// A `try` with its branches.
-fn try_kind(body: Block, handlers: Vec<Handler>) -> StmtKind
-    ensures { statement_of result ≡ try_do (block_of body) (handlers_of_lines (map except_line handlers.items)) }
-{
-    StmtKind::Try(body, handlers)
+    let (body, rest) = colon_block_at(alloc, room, tokens)?;
+    Ok((else_branch(body), rest))
 }
 
 /// A `try` behind its keyword, with its branches, of which there is one at least.
@@ -166,19 +141,16 @@ pub fn try_at<'a>(
     room: u32,
     line: u32,
     tokens: Tokens<'a>,
-) -> Result<(Stmt, Tokens<'a>), ReadEnd<'a>>
+) -> Result<(Option<Stmt>, Tokens<'a>), WrongToken<'a>>
     ensures { GivesTaken line_of_statement result (perform (try_plan room line) (lexemes_left tokens.entry)) }
 {
-    let rest = colon_at(tokens)?;
-    let (body, rest) = block_at(alloc, room, rest)?;
-    let (first, rest) = handler_at(alloc, room, rest)?;
-    let (handlers, rest) = handlers_at(alloc, room, first, rest)?;
-    let kind = try_kind(body, handlers);
-    Ok((Stmt { line, kind }, rest))
+    let (body, rest) = colon_block_at(alloc, room, tokens)?;
+    let (handlers, rest) = handlers_at(alloc, room, rest)?;
+    Ok((try_statement(line, body, handlers), rest))
 }
 
-/// Whether an `except` branch follows.
-pub fn begins_except(tokens: Tokens) -> bool
+// Whether an `except` branch follows.
+fn begins_except(tokens: Tokens) -> bool
     ensures { result ≡ begins_with is_except (lexemes_left tokens.entry) }
 {
     match tokens.list {
@@ -187,26 +159,26 @@ pub fn begins_except(tokens: Tokens) -> bool
     }
 }
 
-// The `except` branches of a `try` behind its first, and the first before them.
+// The `except` branches of a `try`, of which there is one at least.
 #[cycle(blocks)]
 fn handlers_at<'a>(
     alloc: Global,
     room: u32,
-    first: Handler,
     tokens: Tokens<'a>,
-) -> Result<(Vec<Handler>, Tokens<'a>), ReadEnd<'a>>
+) -> Result<(Option<Vec<Handler>>, Tokens<'a>), WrongToken<'a>>
     ensures { GivesTaken (λ v. map except_line v.items) result
-        (and_more (except_line first) (many is_except (run (except_plan room (run (line_plan room)))) (lexemes_left tokens.entry))) }
+        (several is_except (run (except_plan room (run (line_plan room)))) (lexemes_left tokens.entry)) }
 {
-    let mut handlers = Vec::new(alloc);
-    handlers.push(first)?;
+    let mut handlers = Some(Vec::new(alloc));
     let mut rest = tokens;
-    'handlers: while begins_except(rest) {
+    'handlers: loop {
         let (handler, behind) = handler_at(alloc, room, rest)?;
-        handlers.push(handler)?;
+        handlers = pushed(handlers, handler);
+        if !begins_except(behind) {
+            return Ok((handlers, behind));
+        }
         rest = behind;
     }
-    Ok((handlers, rest))
 }
 
 // An `except` branch with its line.
@@ -215,18 +187,18 @@ fn handler_at<'a>(
     alloc: Global,
     room: u32,
     tokens: Tokens<'a>,
-) -> Result<(Handler, Tokens<'a>), ReadEnd<'a>>
+) -> Result<(Option<Handler>, Tokens<'a>), WrongToken<'a>>
     ensures { GivesTaken except_line result
         (run (except_plan room (run (line_plan room))) (lexemes_left tokens.entry)) }
 {
     match tokens.list {
-        [] => Err(ReadEnd::Fault(tokens)),
+        [] => Err(WrongToken { left: tokens }),
         [first, ..] => match first.kind {
             TokenKind::Key(key) => match key {
                 Key::Except => handler_parts_at(alloc, room, first.line, tokens.tail()),
-                _ => Err(ReadEnd::Fault(tokens)),
+                _ => Err(WrongToken { left: tokens }),
             },
-            _ => Err(ReadEnd::Fault(tokens)),
+            _ => Err(WrongToken { left: tokens }),
         },
     }
 }
@@ -238,16 +210,10 @@ fn handler_parts_at<'a>(
     room: u32,
     line: u32,
     tokens: Tokens<'a>,
-) -> Result<(Handler, Tokens<'a>), ReadEnd<'a>>
+) -> Result<(Option<Handler>, Tokens<'a>), WrongToken<'a>>
     ensures { GivesTaken except_line result (perform (except_parts room line) (lexemes_left tokens.entry)) }
 {
     let (exception, rest) = name_at(alloc, tokens)?;
-    let rest = colon_at(rest)?;
-    let (body, rest) = block_at(alloc, room, rest)?;
-    let branch = Handler {
-        line,
-        exception,
-        body,
-    };
-    Ok((branch, rest))
+    let (body, rest) = colon_block_at(alloc, room, rest)?;
+    Ok((handler_branch(line, exception, body), rest))
 }

@@ -3,6 +3,6 @@
 
 mod block;
 mod branches;
+mod parts;
 
-pub use block::{begins_line, block_at};
-pub use branches::{begins_elif, begins_except};
+pub use block::block_at;

@@ -1,15 +1,13 @@
 -- Tokens with what they spell, and reading expressions of them.
-use Rattle.std.proofs.Common.{◌≡◌, ℕ, ◌-◌, List, sym, ◌∙◌, ap, subst, arith, length, take, drop, length-drop}
+use Rattle.std.proofs.Common.{◌≡◌, ℕ, ◌-◌, List, sym, ◌∙◌, ap, arith, length, take, drop, length-drop}
 use Rattle.std.proofs.lemmas.List.{take_all, length-map, drop-map}
 use Rattle.std.specs.Prelude.{Ok, Err}
 use Rattle.kern_lexer.specs.Bytes.{Bytes}
 use Rattle.kern_lexer.specs.Symbols.{symbol_of, lexeme_of, lexemes_of}
 use Rattle.kern_lexer.specs.declared.token.Token.{Token}
 use Rattle.kern_syntax.specs.Tree.{Expression}
-use Rattle.kern_expressions.specs.declared.read_end.ReadEnd.{ReadEnd}
-use Rattle.kern_expressions.specs.declared.read_end.ReadEnd.TheVariants as E
 use Rattle.kern_expressions.specs.declared.tokens.Tokens.{Tokens}
-use Rattle.kern_expressions.specs.Given.{symbols_left, IsReadEnd}
+use Rattle.kern_expressions.specs.Given.{symbols_left}
 use Rattle.kern_grammar.specs.Phrases.{symbols_of}
 use Rattle.kern_grammar.specs.Plans.{of_symbols}
 use Rattle.kern_grammar.specs.Reading.{level_reader, readers, inside_of}
@@ -43,10 +41,9 @@ expression_taken room tokens rest last e h l =
     ∙ ap (λ n. Ok (e, drop (length (lexemes_left tokens) - n) (lexemes_left tokens))) (symbols-count rest)
     ∙ ap (λ y. Ok (e, y)) (sym l)
 
-pub expression_refused : (room : ℕ) (tokens left last : Tokens) (end : ReadEnd) → end ≡ E.Fault left → IsReadEnd end (level_reader (inside_of room) 11 (symbols_left tokens)) → lexemes_left last ≡ drop (length (lexemes_left tokens) - length left.list.now) (lexemes_left tokens) → take_expression room (lexemes_left tokens) ≡ Err (lexemes_left last)
-expression_refused room tokens left last end is h l =
-    let refused : level_reader (inside_of room) 11 (symbols_left tokens) ≡ Err (symbols_left left) = subst (λ e. IsReadEnd e (level_reader (inside_of room) 11 (symbols_left tokens))) is h in
+pub expression_refused : (room : ℕ) (tokens left last : Tokens) → level_reader (inside_of room) 11 (symbols_left tokens) ≡ Err (symbols_left left) → lexemes_left last ≡ drop (length (lexemes_left tokens) - length left.list.now) (lexemes_left tokens) → take_expression room (lexemes_left tokens) ≡ Err (lexemes_left last)
+expression_refused room tokens left last h l =
     taken_by room tokens
-    ∙ ap (of_symbols (lexemes_left tokens)) refused
+    ∙ ap (of_symbols (lexemes_left tokens)) h
     ∙ ap (λ n. Err (drop (length (lexemes_left tokens) - n) (lexemes_left tokens))) (symbols-count left)
     ∙ ap (λ y. Err y) (sym l)

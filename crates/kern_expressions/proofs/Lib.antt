@@ -1,4 +1,5 @@
 pub mod ArgumentLists
 pub mod Exits
+pub mod Keeping
 pub mod Lexemes
 pub mod Passing

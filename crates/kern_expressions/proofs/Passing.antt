@@ -3,7 +3,7 @@ use Rattle.std.proofs.Common.{◌≡◌, ◌≢◌, ℕ, zero, suc, ◌-◌, ◌
 use Rattle.std.proofs.lemmas.Bool.{ne_eqb, le-leb, leb-true}
 use Rattle.std.proofs.lemmas.Bool.Decides.{eqb_tells}
 use Rattle.std.specs.Option.{unwrap_or}
-use Rattle.std.specs.Prelude.{Option, Some, None, Ok, is_some, min, not, ◌==◌}
+use Rattle.std.specs.Prelude.{Option, Some, None, Ok, Err, is_some, min, not, ◌==◌}
 use Rattle.kern_lexer.specs.Symbols.{Symbol, key, sign}
 use Rattle.kern_lexer.specs.declared.token.Key.TheVariants as K
 use Rattle.kern_lexer.specs.declared.token.Sign.TheVariants as S
@@ -17,9 +17,7 @@ use Rattle.kern_grammar.specs.Reading.{Reader, Inside, ◌>>=◌, choose, kind_o
 use Rattle.kern_grammar.proofs.Comparisons.{first_comparison-some}
 use Rattle.kern_grammar.proofs.Joiners.{continues_at-joiner, first_joiner-some}
 use Rattle.kern_grammar.proofs.RowReads.{row_behind-none, then_ok}
-use Rattle.kern_expressions.specs.Given.{IsReadEnd}
 use Rattle.kern_expressions.specs.Passing.{level_of_symbol, operator_level, front_level, behind_operand}
-use Rattle.kern_expressions.specs.declared.read_end.ReadEnd.{ReadEnd}
 use Rattle.kern_expressions.proofs.Exits.{end_passes}
 
 -- the first joiner of a level is an operator of that level
@@ -105,12 +103,10 @@ one_passed inside l symbols rest e a absent n h = elim (eqb_tells (suc l) 9) [
       ∙ nothing-behind (suc l) (level_reader inside l) e rest n
 ]
 
-one_ended : (end : ReadEnd) (inside : Inside) (l : ℕ) (symbols : List Symbol) → suc l ≢ 1 → (suc l ≡ 9 → first_form not_at symbols ≡ None) → IsReadEnd end (level_reader inside l symbols) → IsReadEnd end (level_reader inside (suc l) symbols)
+one_ended : (end : List Symbol) (inside : Inside) (l : ℕ) (symbols : List Symbol) → suc l ≢ 1 → (suc l ≡ 9 → first_form not_at symbols ≡ None) → level_reader inside l symbols ≡ Err end → level_reader inside (suc l) symbols ≡ Err end
 one_ended end inside l symbols a absent h = elim (eqb_tells (suc l) 9) [
-  | inl t ↦ subst (IsReadEnd end) (sym (not-absent inside l symbols t.1 (absent t.1))) h
-  | inr t ↦
-      subst (IsReadEnd end) (sym (level-parts inside l symbols a t.1))
-      (end_passes end (level_reader inside l symbols) (λ x. behind_operand (suc l) (level_reader inside l) x.0 x.1) h)
+  | inl t ↦ not-absent inside l symbols t.1 (absent t.1) ∙ h
+  | inr t ↦ level-parts inside l symbols a t.1 ∙ end_passes end (level_reader inside l symbols) (λ x. behind_operand (suc l) (level_reader inside l) x.0 x.1) h
 ]
 
 -- from a level on, up to another, only operators count
@@ -141,10 +137,10 @@ levels-passed inside (suc level) l symbols rest e r n h = elim (eqb_tells l (suc
 ]
 
 -- an end of a level is the end of each looser one
-pub levels-ended : (end : ReadEnd) (inside : Inside) (level l : ℕ) (symbols : List Symbol) → Reaches level l symbols → IsReadEnd end (level_reader inside l symbols) → IsReadEnd end (level_reader inside level symbols)
-levels-ended end inside zero l symbols r h = let same : l ≡ 0 = omega (arith, r.low) in subst (λ k. IsReadEnd end (level_reader inside k symbols)) same h
+pub levels-ended : (end : List Symbol) (inside : Inside) (level l : ℕ) (symbols : List Symbol) → Reaches level l symbols → level_reader inside l symbols ≡ Err end → level_reader inside level symbols ≡ Err end
+levels-ended end inside zero l symbols r h = let same : l ≡ 0 = omega (arith, r.low) in subst (λ k. level_reader inside k symbols ≡ Err end) same h
 levels-ended end inside (suc level) l symbols r h = elim (eqb_tells l (suc level)) [
-  | inl t ↦ subst (λ k. IsReadEnd end (level_reader inside k symbols)) t.1 h
+  | inl t ↦ subst (λ k. level_reader inside k symbols ≡ Err end) t.1 h
   | inr t ↦
       let below = levels-ended end inside level l symbols (lower level l symbols r t.1) h in
       one_ended end inside level symbols

@@ -1,3 +1,4 @@
 pub mod Given
+pub mod Kept
 pub mod Passing
 pub mod TakenBy

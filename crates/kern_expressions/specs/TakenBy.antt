@@ -3,26 +3,26 @@ use Rattle.std.specs.Prelude.{◌≡◌, Bool, false, List, [], ◌∷◌, Optio
 use Rattle.kern_lexer.specs.Symbols.{Symbol, Lexeme, lexemes_of}
 use Rattle.kern_grammar.specs.Plans.{Taken, Taker, ◌>>=◌, Plan, done, token, peek, part, last}
 use Rattle.kern_grammar.specs.Reading.{choose}
-use Rattle.kern_expressions.specs.declared.read_end.ReadEnd.{ReadEnd}
-use Rattle.kern_expressions.specs.declared.read_end.ReadEnd.TheVariants as E
-use Rattle.kern_expressions.specs.declared.read_end.WrongToken.{WrongToken}
+use Rattle.kern_syntax.specs.Tree.{Expression}
+use Rattle.kern_expressions.specs.Given.{Gives}
+use Rattle.kern_expressions.specs.Kept.{KeptAs, ReadAs}
+use Rattle.kern_expressions.specs.declared.parts.ReadExpr.{ReadExpr}
 use Rattle.kern_expressions.specs.declared.tokens.Tokens.{Tokens}
+use Rattle.kern_expressions.specs.declared.tokens.WrongToken.{WrongToken}
 
 -- the tokens that are left, with what they spell
 abbrev pub lexemes_left : Tokens → List Lexeme
 lexemes_left tokens = lexemes_of tokens.text.now tokens.list.now
 
--- an end is the first fault, at the tokens that are left, or want of memory
-abbrev pub IsTakenEnd : {Y : Type 0} → ReadEnd → Taken Y → Type 0
-IsTakenEnd (E.Fault left) taken = taken ≡ Err (lexemes_left left)
-IsTakenEnd E.Memory taken = Unit {0}
+-- what a function gives is kept of what is taken, unless it was lost
+abbrev pub GivesTaken : {X Y : Type 0} → (X → Y) → Result (Option X × Tokens) WrongToken → Taken Y → Type 0
+GivesTaken view result taken = Gives lexemes_left (KeptAs view) result taken
 
--- what a function gives, seen by a view, and the tokens behind it, are what is taken, unless memory ran out
-abbrev pub GivesTaken : {X Y : Type 0} → (X → Y) → Result (X × Tokens) ReadEnd → Taken Y → Type 0
-GivesTaken view (Ok x) taken = taken ≡ Ok (view x.0, lexemes_left x.1)
-GivesTaken view (Err end) taken = IsTakenEnd end taken
+-- of an expression
+abbrev pub TakesExpression : Result (ReadExpr × Tokens) WrongToken → Taken Expression → Type 0
+TakesExpression result taken = Gives lexemes_left ReadAs result taken
 
--- of a function that keeps nothing they are that in any case, and an end is the first fault
+-- of a function that takes no memory: what it gives, seen by a view, and the tokens behind it, are what is taken
 abbrev pub FindsTaken : {X Y : Type 0} → (X → Y) → Result (X × Tokens) WrongToken → Taken Y → Type 0
 FindsTaken view (Ok x) taken = taken ≡ Ok (view x.0, lexemes_left x.1)
 FindsTaken view (Err wrong) taken = taken ≡ Err (lexemes_left wrong.left)

@@ -1,44 +1,33 @@
 // Reading atoms from the front of tokens: integers, truth values, names with what they are used
 // for, and expressions in parentheses.
 
-ghost use Rattle.std.specs.Prelude.{◌≡◌, ◌+◌, ◌-◌, suc, length, IfOk, IsTrue};
+ghost use Rattle.std.specs.Prelude.{◌≡◌, ◌+◌, ◌-◌, suc, length, IsTrue};
+ghost use Rattle.kern_lexer.specs.Bytes.{Bytes};
 ghost use Rattle.kern_lexer.specs.Names.{is_quotable};
 ghost use Rattle.kern_lexer.specs.Symbols.{bytes_at};
-ghost use Rattle.kern_expressions.specs.Given.{FindsExpression, FindsRead, GivesExpression, GivesRead, item_of, symbols_left};
+ghost use Rattle.kern_expressions.specs.Given.{FindsRead, GivesExpression, GivesRead, symbols_left};
+ghost use Rattle.kern_expressions.specs.Kept.{IsNamed, ReadAs, item_of};
 ghost use Rattle.kern_grammar.specs.Reading.{arguments, atom, bare_atom, behind_dot, behind_method, behind_name, closed, comma_or_close, enclosed, ended, is_close_bracket, is_close_parenthesis, item, items, value_item, inside_of};
-ghost use Rattle.kern_syntax.specs.Tree.{element, group};
-ghost use Rattle.kern_syntax.specs.TreeOf.{arguments_of, expression_of};
+ghost use Rattle.kern_syntax.specs.Tree.{Expression, element, group};
+ghost use Rattle.kern_syntax.specs.TreeOf.{arguments_of};
 
 use crate::expression::{LOOSEST, level_at};
-use crate::read_end::{ReadEnd, WrongToken};
-use crate::tokens::Tokens;
+use crate::parts::{
+    ReadExpr, argument, called, grouped, identifier, indexed, method_called, named, pushed,
+};
+use crate::tokens::{Tokens, WrongToken};
 use kern_lexer::{Key, Sign, TokenKind};
 use kern_syntax::{Argument, Expr, Identifier};
 use rtio_types::Name;
-use std::alloc::{AllocError, Global};
-
-fn grouped(alloc: Global, e: Expr) -> Result<Expr, AllocError>
-    ensures { IfOk result (λ g. expression_of g ≡ group (expression_of e)) }
-{
-    Ok(Expr::Group(Box::new(alloc, e)?))
-}
-
-fn indexed(alloc: Global, array: Identifier, index: Expr) -> Result<Expr, AllocError>
-    ensures { IfOk result (λ e. expression_of e ≡ element array (expression_of index)) }
-{
-    Ok(Expr::Index(array, Box::new(alloc, index)?))
-}
-
-pub fn identifier(alloc: Global, bytes: &[u8]) -> Result<Identifier, AllocError>
-    ensures { IfOk result (λ name. name ≡ bytes.now) }
-{
-    Ok(Identifier::of(Vec::from_slice(alloc, bytes)?))
-}
+use std::alloc::Global;
 
 // What is read up to a closing parenthesis.
-fn close_parenthesis<'a>(e: Expr, tokens: Tokens<'a>) -> Result<(Expr, Tokens<'a>), WrongToken<'a>>
-    ensures { FindsExpression result
-        (closed is_close_parenthesis (expression_of e) (symbols_left tokens.entry)) }
+fn close_parenthesis<'a>(
+    e: ReadExpr,
+    tokens: Tokens<'a>,
+) -> Result<(ReadExpr, Tokens<'a>), WrongToken<'a>>
+    ensures { (tree : Expression) → ReadAs e tree →
+        GivesExpression result (closed is_close_parenthesis tree (symbols_left tokens.entry)) }
 {
     match tokens.list {
         [] => Err(WrongToken { left: tokens }),
@@ -50,9 +39,12 @@ fn close_parenthesis<'a>(e: Expr, tokens: Tokens<'a>) -> Result<(Expr, Tokens<'a
 }
 
 // What is read up to a closing bracket.
-fn close_bracket<'a>(e: Expr, tokens: Tokens<'a>) -> Result<(Expr, Tokens<'a>), WrongToken<'a>>
-    ensures { FindsExpression result
-        (closed is_close_bracket (expression_of e) (symbols_left tokens.entry)) }
+fn close_bracket<'a>(
+    e: ReadExpr,
+    tokens: Tokens<'a>,
+) -> Result<(ReadExpr, Tokens<'a>), WrongToken<'a>>
+    ensures { (tree : Expression) → ReadAs e tree →
+        GivesExpression result (closed is_close_bracket tree (symbols_left tokens.entry)) }
 {
     match tokens.list {
         [] => Err(WrongToken { left: tokens }),
@@ -69,16 +61,16 @@ pub fn atom_at<'a>(
     alloc: Global,
     room: u32,
     tokens: Tokens<'a>,
-) -> Result<(Expr, Tokens<'a>), ReadEnd<'a>>
+) -> Result<(ReadExpr, Tokens<'a>), WrongToken<'a>>
     ensures { GivesExpression result (atom (inside_of room) (symbols_left tokens.entry)) }
 {
     let (e, behind) = bare_atom_at(alloc, room, tokens)?;
-    let (whole, rest) = ended_atom(e, behind)?;
-    Ok((whole, rest))
+    ended_atom(e, behind)
 }
 
-fn ended_atom<'a>(e: Expr, tokens: Tokens<'a>) -> Result<(Expr, Tokens<'a>), WrongToken<'a>>
-    ensures { FindsExpression result (ended (expression_of e) (symbols_left tokens.entry)) }
+fn ended_atom<'a>(e: ReadExpr, tokens: Tokens<'a>) -> Result<(ReadExpr, Tokens<'a>), WrongToken<'a>>
+    ensures { (tree : Expression) → ReadAs e tree →
+        GivesExpression result (ended tree (symbols_left tokens.entry)) }
 {
     match tokens.list {
         [] => Ok((e, tokens)),
@@ -97,28 +89,28 @@ fn bare_atom_at<'a>(
     alloc: Global,
     room: u32,
     tokens: Tokens<'a>,
-) -> Result<(Expr, Tokens<'a>), ReadEnd<'a>>
+) -> Result<(ReadExpr, Tokens<'a>), WrongToken<'a>>
     ensures { GivesExpression result (bare_atom (inside_of room) (symbols_left tokens.entry)) }
 {
     match tokens.list {
-        [] => Err(ReadEnd::Fault(tokens)),
+        [] => Err(WrongToken { left: tokens }),
         [first, ..] => match first.kind {
-            TokenKind::Integer(n) => Ok((Expr::Integer(n), tokens.tail())),
+            TokenKind::Integer(n) => Ok((ReadExpr::Kept(Expr::Integer(n)), tokens.tail())),
             TokenKind::Name => {
                 let bytes = tokens.bytes_at(first.at as usize, first.len as usize);
-                let name = identifier(alloc, bytes)?;
+                let name = identifier(alloc, bytes);
                 named_at(alloc, room, name, tokens.tail())
             }
             TokenKind::Key(key) => match key {
-                Key::True => Ok((Expr::True, tokens.tail())),
-                Key::False => Ok((Expr::False, tokens.tail())),
-                _ => Err(ReadEnd::Fault(tokens)),
+                Key::True => Ok((ReadExpr::Kept(Expr::True), tokens.tail())),
+                Key::False => Ok((ReadExpr::Kept(Expr::False), tokens.tail())),
+                _ => Err(WrongToken { left: tokens }),
             },
             TokenKind::Sign(sign) => match sign {
                 Sign::OpenParenthesis => group_at(alloc, room, tokens),
-                _ => Err(ReadEnd::Fault(tokens)),
+                _ => Err(WrongToken { left: tokens }),
             },
-            _ => Err(ReadEnd::Fault(tokens)),
+            _ => Err(WrongToken { left: tokens }),
         },
     }
 }
@@ -129,17 +121,15 @@ fn group_at<'a>(
     alloc: Global,
     room: u32,
     tokens: Tokens<'a>,
-) -> Result<(Expr, Tokens<'a>), ReadEnd<'a>>
+) -> Result<(ReadExpr, Tokens<'a>), WrongToken<'a>>
     ensures { GivesExpression result
         (enclosed (inside_of room) is_close_parenthesis group (symbols_left tokens.entry)) }
 {
     if room == 0 {
-        return Err(ReadEnd::Fault(tokens));
+        return Err(WrongToken { left: tokens });
     }
     let (e, behind) = level_at(alloc, room - 1, LOOSEST, tokens.tail())?;
-    let group = grouped(alloc, e)?;
-    let (whole, rest) = close_parenthesis(group, behind)?;
-    Ok((whole, rest))
+    close_parenthesis(grouped(alloc, e), behind)
 }
 
 // An element of an array, from the opening bracket of its index on.
@@ -147,19 +137,17 @@ fn group_at<'a>(
 fn element_at<'a>(
     alloc: Global,
     room: u32,
-    array: Identifier,
+    array: Option<Identifier>,
     tokens: Tokens<'a>,
-) -> Result<(Expr, Tokens<'a>), ReadEnd<'a>>
-    ensures { GivesExpression result
-        (enclosed (inside_of room) is_close_bracket (element array) (symbols_left tokens.entry)) }
+) -> Result<(ReadExpr, Tokens<'a>), WrongToken<'a>>
+    ensures { (x : Bytes) → IsNamed array x → GivesExpression result
+        (enclosed (inside_of room) is_close_bracket (element x) (symbols_left tokens.entry)) }
 {
     if room == 0 {
-        return Err(ReadEnd::Fault(tokens));
+        return Err(WrongToken { left: tokens });
     }
     let (index, behind) = level_at(alloc, room - 1, LOOSEST, tokens.tail())?;
-    let element = indexed(alloc, array, index)?;
-    let (whole, rest) = close_bracket(element, behind)?;
-    Ok((whole, rest))
+    close_bracket(indexed(alloc, array, index), behind)
 }
 
 // A name with an index, with arguments, with a method, or alone, from what follows the name on.
@@ -167,24 +155,25 @@ fn element_at<'a>(
 fn named_at<'a>(
     alloc: Global,
     room: u32,
-    name: Identifier,
+    name: Option<Identifier>,
     tokens: Tokens<'a>,
-) -> Result<(Expr, Tokens<'a>), ReadEnd<'a>>
-    ensures { GivesExpression result (behind_name (inside_of room) name (symbols_left tokens.entry)) }
+) -> Result<(ReadExpr, Tokens<'a>), WrongToken<'a>>
+    ensures { (x : Bytes) → IsNamed name x →
+        GivesExpression result (behind_name (inside_of room) x (symbols_left tokens.entry)) }
 {
     match tokens.list {
-        [] => Ok((Expr::Variable(name), tokens)),
+        [] => Ok((named(name), tokens)),
         [first, ..] => match first.kind {
             TokenKind::Sign(sign) => match sign {
                 Sign::OpenBracket => element_at(alloc, room, name, tokens),
                 Sign::OpenParenthesis => {
                     let (arguments, rest) = arguments_at(alloc, room, tokens.tail())?;
-                    Ok((Expr::Call(name, arguments), rest))
+                    Ok((called(name, arguments), rest))
                 }
                 Sign::Dot => method_at(alloc, room, name, tokens.tail()),
-                _ => Ok((Expr::Variable(name), tokens)),
+                _ => Ok((named(name), tokens)),
             },
-            _ => Ok((Expr::Variable(name), tokens)),
+            _ => Ok((named(name), tokens)),
         },
     }
 }
@@ -194,20 +183,21 @@ fn named_at<'a>(
 fn method_at<'a>(
     alloc: Global,
     room: u32,
-    object: Identifier,
+    object: Option<Identifier>,
     tokens: Tokens<'a>,
-) -> Result<(Expr, Tokens<'a>), ReadEnd<'a>>
-    ensures { GivesExpression result (behind_dot (inside_of room) object (symbols_left tokens.entry)) }
+) -> Result<(ReadExpr, Tokens<'a>), WrongToken<'a>>
+    ensures { (x : Bytes) → IsNamed object x →
+        GivesExpression result (behind_dot (inside_of room) x (symbols_left tokens.entry)) }
 {
     match tokens.list {
-        [] => Err(ReadEnd::Fault(tokens)),
+        [] => Err(WrongToken { left: tokens }),
         [first, ..] => match first.kind {
             TokenKind::Name => {
                 let bytes = tokens.bytes_at(first.at as usize, first.len as usize);
-                let method = identifier(alloc, bytes)?;
+                let method = identifier(alloc, bytes);
                 called_method_at(alloc, room, object, method, tokens.tail())
             }
-            _ => Err(ReadEnd::Fault(tokens)),
+            _ => Err(WrongToken { left: tokens }),
         },
     }
 }
@@ -217,24 +207,24 @@ fn method_at<'a>(
 fn called_method_at<'a>(
     alloc: Global,
     room: u32,
-    object: Identifier,
-    method: Identifier,
+    object: Option<Identifier>,
+    method: Option<Identifier>,
     tokens: Tokens<'a>,
-) -> Result<(Expr, Tokens<'a>), ReadEnd<'a>>
-    ensures { GivesExpression result
-        (behind_method (inside_of room) object method (symbols_left tokens.entry)) }
+) -> Result<(ReadExpr, Tokens<'a>), WrongToken<'a>>
+    ensures { (x m : Bytes) → IsNamed object x → IsNamed method m →
+        GivesExpression result (behind_method (inside_of room) x m (symbols_left tokens.entry)) }
 {
     match tokens.list {
-        [] => Err(ReadEnd::Fault(tokens)),
+        [] => Err(WrongToken { left: tokens }),
         [first, ..] => match first.kind {
             TokenKind::Sign(sign) => match sign {
                 Sign::OpenParenthesis => {
                     let (arguments, rest) = arguments_at(alloc, room, tokens.tail())?;
-                    Ok((Expr::Method(object, method, arguments), rest))
+                    Ok((method_called(object, method, arguments), rest))
                 }
-                _ => Err(ReadEnd::Fault(tokens)),
+                _ => Err(WrongToken { left: tokens }),
             },
-            _ => Err(ReadEnd::Fault(tokens)),
+            _ => Err(WrongToken { left: tokens }),
         },
     }
 }
@@ -262,14 +252,17 @@ fn arguments_at<'a>(
     alloc: Global,
     room: u32,
     tokens: Tokens<'a>,
-) -> Result<(Vec<Argument>, Tokens<'a>), ReadEnd<'a>>
+) -> Result<(Option<Vec<Argument>>, Tokens<'a>), WrongToken<'a>>
     ensures { GivesRead (λ args. arguments_of args.items) result
         (arguments (inside_of room) (symbols_left tokens.entry)) }
 {
     match tokens.list {
         [] => items_at(alloc, room, tokens),
         [first, ..] => match first.kind {
-            TokenKind::Sign(Sign::CloseParenthesis) => Ok((Vec::new(alloc), tokens.tail())),
+            TokenKind::Sign(sign) => match sign {
+                Sign::CloseParenthesis => Ok((Some(Vec::new(alloc)), tokens.tail())),
+                _ => items_at(alloc, room, tokens),
+            },
             _ => items_at(alloc, room, tokens),
         },
     }
@@ -281,15 +274,15 @@ fn items_at<'a>(
     alloc: Global,
     room: u32,
     tokens: Tokens<'a>,
-) -> Result<(Vec<Argument>, Tokens<'a>), ReadEnd<'a>>
+) -> Result<(Option<Vec<Argument>>, Tokens<'a>), WrongToken<'a>>
     ensures { GivesRead (λ args. arguments_of args.items) result
         (items (inside_of room) (suc (length (symbols_left tokens.entry))) (symbols_left tokens.entry)) }
 {
-    let mut arguments = Vec::new(alloc);
+    let mut arguments = Some(Vec::new(alloc));
     let mut rest = tokens;
     'items: loop {
         let (argument, behind) = argument_at(alloc, room, rest)?;
-        arguments.push(argument)?;
+        arguments = pushed(arguments, argument);
         let (more, next) = comma_or_close(behind)?;
         if !more {
             return Ok((arguments, next));
@@ -304,7 +297,7 @@ fn argument_at<'a>(
     alloc: Global,
     room: u32,
     tokens: Tokens<'a>,
-) -> Result<(Argument, Tokens<'a>), ReadEnd<'a>>
+) -> Result<(Option<Argument>, Tokens<'a>), WrongToken<'a>>
     ensures { GivesRead item_of result (item (inside_of room) (symbols_left tokens.entry)) }
 {
     match tokens.list {
@@ -312,7 +305,7 @@ fn argument_at<'a>(
         [first, ..] => match first.kind {
             TokenKind::Text => {
                 let name = quoted_name(tokens, first.at, first.len);
-                Ok((Argument::Text(name), tokens.tail()))
+                Ok((Some(Argument::Text(name)), tokens.tail()))
             }
             _ => value_at(alloc, room, tokens),
         },
@@ -334,12 +327,12 @@ fn value_at<'a>(
     alloc: Global,
     room: u32,
     tokens: Tokens<'a>,
-) -> Result<(Argument, Tokens<'a>), ReadEnd<'a>>
+) -> Result<(Option<Argument>, Tokens<'a>), WrongToken<'a>>
     ensures { GivesRead item_of result (value_item (inside_of room) (symbols_left tokens.entry)) }
 {
     if room == 0 {
-        return Err(ReadEnd::Fault(tokens));
+        return Err(WrongToken { left: tokens });
     }
     let (e, rest) = level_at(alloc, room - 1, LOOSEST, tokens)?;
-    Ok((Argument::Value(e), rest))
+    Ok((argument(e), rest))
 }

@@ -3,61 +3,26 @@
 // A level is how loosely an expression's form binds: 0 for an atom, 11 for `or`. The room is the
 // number of nestings that may still be opened.
 
-ghost use Rattle.std.specs.Prelude.{◌≡◌, ◌≢◌, ◌≤◌, ◌-◌, IfOk, OnOk};
-ghost use Rattle.kern_expressions.specs.Given.{FindsExpression, GivesExpression, symbols_left};
+ghost use Rattle.std.specs.Prelude.{◌≡◌, ◌≢◌, ◌≤◌, ◌-◌};
+ghost use Rattle.kern_expressions.specs.Given.{GivesExpression, symbols_left};
+ghost use Rattle.kern_expressions.specs.Kept.{ReadAs};
 ghost use Rattle.kern_expressions.specs.Passing.{behind_operand, front_level};
-ghost use Rattle.kern_expressions.specs.TakenBy.{GivesTaken, lexemes_left};
-ghost use Rattle.kern_grammar.specs.Operators.{join};
+ghost use Rattle.kern_expressions.specs.TakenBy.{TakesExpression, lexemes_left};
 ghost use Rattle.kern_grammar.specs.Reading.{comparison_behind, end_of_comparison, inside_of, level_reader, not_at, prefixed, row_behind, unary_at};
 ghost use Rattle.kern_grammar.specs.SimplePlans.{take_expression};
-ghost use Rattle.kern_syntax.specs.Tree.{compare, negation, unary};
-ghost use Rattle.kern_syntax.specs.TreeOf.{expression_of};
+ghost use Rattle.kern_syntax.specs.Tree.{Expression};
 
 use crate::atom::atom_at;
 use crate::operator::{begins_with_not, comparison_at, joiner_at, level_of_operator, prefix_at};
-use crate::read_end::{ReadEnd, WrongToken};
-use crate::tokens::Tokens;
-use kern_grammar::Joiner;
-use kern_syntax::{Comparison, Expr, UnaryOperator};
-use std::alloc::{AllocError, Global};
+use crate::parts::{ReadExpr, compared, joined, negated, with_prefix};
+use crate::tokens::{Tokens, WrongToken};
+use std::alloc::Global;
 
 /// The level of a whole expression.
 pub const LOOSEST: u32 = 11;
 
 // The most operators of one level in a row.
 const MOST_TURNS: u32 = 16;
-
-fn joined(alloc: Global, joiner: Joiner, left: Expr, right: Expr) -> Result<Expr, AllocError>
-    ensures { IfOk result (λ e. expression_of e ≡ join joiner (expression_of left) (expression_of right)) }
-{
-    let left = Box::new(alloc, left)?;
-    let right = Box::new(alloc, right)?;
-    match joiner {
-        Joiner::Binary(op) => Ok(Expr::Binary(op, left, right)),
-        Joiner::And => Ok(Expr::And(left, right)),
-        Joiner::Or => Ok(Expr::Or(left, right)),
-    }
-}
-
-fn compared(alloc: Global, op: Comparison, left: Expr, right: Expr) -> Result<Expr, AllocError>
-    ensures { IfOk result (λ e. expression_of e ≡ compare op (expression_of left) (expression_of right)) }
-{
-    let left = Box::new(alloc, left)?;
-    let right = Box::new(alloc, right)?;
-    Ok(Expr::Compare(op, left, right))
-}
-
-fn with_prefix(alloc: Global, op: UnaryOperator, operand: Expr) -> Result<Expr, AllocError>
-    ensures { IfOk result (λ e. expression_of e ≡ unary op (expression_of operand)) }
-{
-    Ok(Expr::Unary(op, Box::new(alloc, operand)?))
-}
-
-fn negated(alloc: Global, operand: Expr) -> Result<Expr, AllocError>
-    ensures { IfOk result (λ e. expression_of e ≡ negation (expression_of operand)) }
-{
-    Ok(Expr::Not(Box::new(alloc, operand)?))
-}
 
 /// The level at which what stands first is read: that of `not` where it stands first and may stand
 /// there, else that of prefixes, or of atoms where no more is asked for.
@@ -79,7 +44,7 @@ pub fn level_at<'a>(
     room: u32,
     level: u32,
     tokens: Tokens<'a>,
-) -> Result<(Expr, Tokens<'a>), ReadEnd<'a>>
+) -> Result<(ReadExpr, Tokens<'a>), WrongToken<'a>>
     requires { level ≤ 11 }
     ensures { GivesExpression result (level_reader (inside_of room) level (symbols_left tokens.entry)) }
 {
@@ -109,7 +74,7 @@ fn front_at<'a>(
     room: u32,
     level: u32,
     tokens: Tokens<'a>,
-) -> Result<(Expr, Tokens<'a>), ReadEnd<'a>>
+) -> Result<(ReadExpr, Tokens<'a>), WrongToken<'a>>
     requires { (level ≢ 0) → (level ≢ 9) → level ≡ 1 }
     ensures { GivesExpression result (level_reader (inside_of room) level (symbols_left tokens.entry)) }
 {
@@ -126,13 +91,13 @@ fn operators_at<'a>(
     alloc: Global,
     room: u32,
     level: u32,
-    left: Expr,
+    left: ReadExpr,
     tokens: Tokens<'a>,
-) -> Result<(Expr, Tokens<'a>), ReadEnd<'a>>
+) -> Result<(ReadExpr, Tokens<'a>), WrongToken<'a>>
     requires positive { 1 ≤ level }
     requires known { level ≤ 11 }
-    ensures { GivesExpression result (behind_operand level (level_reader (inside_of room) (level - 1))
-        (expression_of left) (symbols_left tokens.entry)) }
+    ensures { (e : Expression) → ReadAs left e → GivesExpression result
+        (behind_operand level (level_reader (inside_of room) (level - 1)) e (symbols_left tokens.entry)) }
 {
     match level {
         8 => compared_at(alloc, room, left, tokens),
@@ -146,13 +111,13 @@ fn row_at<'a>(
     alloc: Global,
     room: u32,
     level: u32,
-    left: Expr,
+    left: ReadExpr,
     tokens: Tokens<'a>,
-) -> Result<(Expr, Tokens<'a>), ReadEnd<'a>>
+) -> Result<(ReadExpr, Tokens<'a>), WrongToken<'a>>
     requires positive { 1 ≤ level }
     requires known { level ≤ 11 }
-    ensures { GivesExpression result (row_behind 16 level (level_reader (inside_of room) (level - 1))
-        (expression_of left) (symbols_left tokens.entry)) }
+    ensures { (e : Expression) → ReadAs left e → GivesExpression result
+        (row_behind 16 level (level_reader (inside_of room) (level - 1)) e (symbols_left tokens.entry)) }
 {
     let mut e = left;
     let mut rest = tokens;
@@ -163,10 +128,10 @@ fn row_at<'a>(
             Some(joiner) => joiner,
         };
         if more == 0 {
-            return Err(ReadEnd::Fault(rest));
+            return Err(WrongToken { left: rest });
         }
         let (right, behind) = level_at(alloc, room, level - 1, rest.tail())?;
-        e = joined(alloc, joiner, e, right)?;
+        e = joined(alloc, joiner, e, right);
         rest = behind;
         more -= 1;
     }
@@ -178,7 +143,7 @@ fn prefixed_at<'a>(
     alloc: Global,
     room: u32,
     tokens: Tokens<'a>,
-) -> Result<(Expr, Tokens<'a>), ReadEnd<'a>>
+) -> Result<(ReadExpr, Tokens<'a>), WrongToken<'a>>
     ensures { GivesExpression result
         (prefixed unary_at (inside_of room) 1 (level_reader (inside_of room) 0) (symbols_left tokens.entry)) }
 {
@@ -187,11 +152,10 @@ fn prefixed_at<'a>(
         Some(op) => op,
     };
     if room == 0 {
-        return Err(ReadEnd::Fault(tokens));
+        return Err(WrongToken { left: tokens });
     }
     let (operand, rest) = level_at(alloc, room - 1, 1, tokens.tail())?;
-    let e = with_prefix(alloc, op, operand)?;
-    Ok((e, rest))
+    Ok((with_prefix(alloc, op, operand), rest))
 }
 
 // A comparison that no other follows, behind its left operand.
@@ -199,25 +163,27 @@ fn prefixed_at<'a>(
 fn compared_at<'a>(
     alloc: Global,
     room: u32,
-    left: Expr,
+    left: ReadExpr,
     tokens: Tokens<'a>,
-) -> Result<(Expr, Tokens<'a>), ReadEnd<'a>>
-    ensures { GivesExpression result (comparison_behind (level_reader (inside_of room) 7)
-        (expression_of left) (symbols_left tokens.entry)) }
+) -> Result<(ReadExpr, Tokens<'a>), WrongToken<'a>>
+    ensures { (e : Expression) → ReadAs left e → GivesExpression result
+        (comparison_behind (level_reader (inside_of room) 7) e (symbols_left tokens.entry)) }
 {
     let op = match comparison_at(tokens) {
         None => return Ok((left, tokens)),
         Some(op) => op,
     };
     let (right, rest) = level_at(alloc, room, 7, tokens.tail())?;
-    let e = compared(alloc, op, left, right)?;
-    let (whole, end) = ended_comparison(e, rest)?;
-    Ok((whole, end))
+    ended_comparison(compared(alloc, op, left, right), rest)
 }
 
 // A comparison, unless another follows it.
-fn ended_comparison<'a>(e: Expr, tokens: Tokens<'a>) -> Result<(Expr, Tokens<'a>), WrongToken<'a>>
-    ensures { FindsExpression result (end_of_comparison (expression_of e) (symbols_left tokens.entry)) }
+fn ended_comparison<'a>(
+    e: ReadExpr,
+    tokens: Tokens<'a>,
+) -> Result<(ReadExpr, Tokens<'a>), WrongToken<'a>>
+    ensures { (tree : Expression) → ReadAs e tree →
+        GivesExpression result (end_of_comparison tree (symbols_left tokens.entry)) }
 {
     match comparison_at(tokens) {
         None => Ok((e, tokens)),
@@ -231,7 +197,7 @@ fn negation_at<'a>(
     alloc: Global,
     room: u32,
     tokens: Tokens<'a>,
-) -> Result<(Expr, Tokens<'a>), ReadEnd<'a>>
+) -> Result<(ReadExpr, Tokens<'a>), WrongToken<'a>>
     ensures { GivesExpression result
         (prefixed not_at (inside_of room) 9 (level_reader (inside_of room) 8) (symbols_left tokens.entry)) }
 {
@@ -239,11 +205,10 @@ fn negation_at<'a>(
         return level_at(alloc, room, 8, tokens);
     }
     if room == 0 {
-        return Err(ReadEnd::Fault(tokens));
+        return Err(WrongToken { left: tokens });
     }
     let (operand, rest) = level_at(alloc, room - 1, 9, tokens.tail())?;
-    let e = negated(alloc, operand)?;
-    Ok((e, rest))
+    Ok((negated(alloc, operand), rest))
 }
 
 /// An expression with so much room for nesting.
@@ -251,12 +216,13 @@ pub fn expression_at<'a>(
     alloc: Global,
     room: u32,
     tokens: Tokens<'a>,
-) -> Result<(Expr, Tokens<'a>), ReadEnd<'a>>
-    ensures { GivesTaken expression_of result (take_expression room (lexemes_left tokens.entry)) }
+) -> Result<(ReadExpr, Tokens<'a>), WrongToken<'a>>
+    ensures { TakesExpression result (take_expression room (lexemes_left tokens.entry)) }
 {
     match level_at(alloc, room, LOOSEST, tokens) {
         Ok((e, rest)) => Ok((e, tokens.last(rest.list.len()))),
-        Err(ReadEnd::Fault(left)) => Err(ReadEnd::Fault(tokens.last(left.list.len()))),
-        Err(ReadEnd::Memory) => Err(ReadEnd::Memory),
+        Err(wrong) => Err(WrongToken {
+            left: tokens.last(wrong.left.list.len()),
+        }),
     }
 }

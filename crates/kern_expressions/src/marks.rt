@@ -3,8 +3,7 @@
 ghost use Rattle.kern_expressions.specs.TakenBy.{FindsRest, first_seen, lexemes_left};
 ghost use Rattle.kern_grammar.specs.Views.{close_bracket, close_parenthesis, colon, dedented, def_key, dot, in_key, indented, line_end, open_parenthesis};
 
-use crate::read_end::WrongToken;
-use crate::tokens::Tokens;
+use crate::tokens::{Tokens, WrongToken};
 use kern_lexer::{Key, Sign, TokenKind};
 
 // The tokens behind the first, which matches a pattern.

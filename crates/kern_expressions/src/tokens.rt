@@ -16,6 +16,13 @@ pub struct Tokens<'a> {
     ghost spelled: { IsTrue (are_spelled text.now list.now) },
 }
 
+/// A token is wrong: how each reader ends that doesn't find what it reads.
+#[derive(Clone, Copy)]
+pub struct WrongToken<'a> {
+    /// The tokens from the wrong one on.
+    pub left: Tokens<'a>,
+}
+
 impl<'a> Tokens<'a> {
     ghost use Rattle.std.specs.Prelude.{◌≡◌, ◌-◌, drop, length};
     ghost use Rattle.kern_lexer.specs.Symbols.{bytes_at, lexemes_of};

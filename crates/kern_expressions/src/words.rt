@@ -5,28 +5,27 @@ ghost use Rattle.std.specs.Str.{bytes_eq};
 ghost use Rattle.kern_expressions.specs.TakenBy.{FindsRest, FindsTaken, GivesTaken, first_seen, lexemes_left};
 ghost use Rattle.kern_grammar.specs.Views.{a_name, a_type, the_name, type_of_word};
 
-use crate::atom::identifier;
-use crate::read_end::{ReadEnd, WrongToken};
-use crate::tokens::Tokens;
+use crate::parts::identifier;
+use crate::tokens::{Tokens, WrongToken};
 use kern_lexer::TokenKind;
 use kern_syntax::{DeclaredType, Identifier};
 use std::alloc::Global;
 
-/// A name.
+/// A name, which is missing where memory was refused.
 pub fn name_at<'a>(
     alloc: Global,
     tokens: Tokens<'a>,
-) -> Result<(Identifier, Tokens<'a>), ReadEnd<'a>>
+) -> Result<(Option<Identifier>, Tokens<'a>), WrongToken<'a>>
     ensures { GivesTaken (λ name. name) result (first_seen a_name (lexemes_left tokens.entry)) }
 {
     match tokens.list {
-        [] => Err(ReadEnd::Fault(tokens)),
+        [] => Err(WrongToken { left: tokens }),
         [first, ..] => match first.kind {
             TokenKind::Name => {
                 let bytes = tokens.bytes_at(first.at as usize, first.len as usize);
-                Ok((identifier(alloc, bytes)?, tokens.tail()))
+                Ok((identifier(alloc, bytes), tokens.tail()))
             }
-            _ => Err(ReadEnd::Fault(tokens)),
+            _ => Err(WrongToken { left: tokens }),
         },
     }
 }

@@ -28,14 +28,16 @@ takes-body = takes-block 15 (run (line_plan 15)) (takes-line 15)
 ready-parameter : {A : Type 0} (stop : A → List Lexeme → Type 0) (next : ParameterTree → Plan A) → ((p : ParameterTree) → Ready stop (next p)) → Ready stop (a_parameter next)
 ready-parameter stop next ready = (([], name [], refl), λ x. ((tt, sign S.Colon, refl), λ v. ((D.Bool, name (codes "bool"), refl), λ d. ready (record { name = x; declared = d }))))
 
-parameter-begins : (p : ParameterTree) (front : List Lexeme) → Spells comma_parameter p front → BeginsWith is_comma front
+pub parameter-begins : (p : ParameterTree) (front : List Lexeme) → Spells comma_parameter p front → BeginsWith is_comma front
 parameter-begins p [] h = absurd h
 parameter-begins p (t ∷ front) h = ap is_seen h.1
 
+pub takes-parameter : Takes (Spells comma_parameter) no_stop (run comma_parameter)
+takes-parameter = plan-takes no_stop comma_parameter ((tt, sign S.Comma, refl), λ v. ready-parameter no_stop (λ p. done p) (λ p rest. tt)) free-alike
+
 pub takes-parameters : Takes (EachOf (Spells comma_parameter)) (EachEnds no_stop is_comma) (many is_comma (run comma_parameter))
 takes-parameters =
-    many-takes (Spells comma_parameter) no_stop is_comma (run comma_parameter) (record { begins = parameter-begins; chains = λ x y front rest h. tt })
-    (plan-takes no_stop comma_parameter ((tt, sign S.Comma, refl), λ v. ready-parameter no_stop (λ p. done p) (λ p rest. tt)) free-alike)
+    many-takes (Spells comma_parameter) no_stop is_comma (run comma_parameter) (record { begins = parameter-begins; chains = λ x y front rest h. tt }) takes-parameter
 
 ready-function_block : (line : ℕ) (f : Bytes) (parameters : List ParameterTree) (result : Option DeclaredType) → Ready no_stop (function_block line f parameters result)
 ready-function_block line f parameters result = (takes-body, λ b front p. ((λ rest. tt), λ g back rest h s. tt))

@@ -3,6 +3,7 @@
 
 mod function;
 mod parsing;
+mod parts;
 mod program;
 
 pub use parsing::{SyntaxEnd, parse};

@@ -12,7 +12,7 @@ ghost use Rattle.kern_syntax.specs.TreeOf.{tree_of};
 
 use crate::program::program_at;
 use kern_canonical::canonical_text_reads_back;
-use kern_expressions::{ReadEnd, Tokens};
+use kern_expressions::Tokens;
 use kern_lexer::{Token, tokens_end_once, two_tokens_a_byte};
 use kern_syntax::Program;
 use std::alloc::Global;
@@ -43,10 +43,12 @@ pub fn parse(alloc: Global, tokens: &[Token], bytes: &[u8]) -> Result<Program, S
     two_tokens_a_byte();
     canonical_text_reads_back();
     match program_at(alloc, Tokens::of(bytes, tokens)) {
-        Ok((program, _)) => Ok(program),
-        Err(ReadEnd::Fault(left)) => Err(SyntaxEnd::Fault {
-            token: (tokens.len() - left.list.len()) as u32,
+        Ok((program, _rest)) => match program {
+            Some(program) => Ok(program),
+            None => Err(SyntaxEnd::Memory),
+        },
+        Err(wrong) => Err(SyntaxEnd::Fault {
+            token: (tokens.len() - wrong.left.list.len()) as u32,
         }),
-        Err(ReadEnd::Memory) => Err(SyntaxEnd::Memory),
     }
 }

@@ -1,76 +1,71 @@
 // Reading the functions of a program and the End.
 
-ghost use Rattle.std.specs.Prelude.{map, IfErr};
+ghost use Rattle.std.specs.Prelude.{◌≡◌, map};
 ghost use Rattle.kern_grammar.specs.BlockPlans.{function_plan, is_function, program_plan};
-ghost use Rattle.kern_blocks.specs.BlockSteps.{and_more};
-ghost use Rattle.kern_parser.specs.FunctionSteps.{NeedsTree};
-ghost use Rattle.kern_grammar.specs.Plans.{many, run};
-ghost use Rattle.kern_expressions.specs.TakenBy.{GivesTaken, IsTakenEnd, lexemes_left};
+ghost use Rattle.kern_grammar.specs.Plans.{run};
+ghost use Rattle.kern_grammar.specs.Views.{text_end};
+ghost use Rattle.kern_expressions.specs.TakenBy.{FindsRest, GivesTaken, begins_with, first_seen, lexemes_left};
+ghost use Rattle.kern_statements.specs.Several.{several};
 ghost use Rattle.kern_syntax.specs.TreeOf.{function_of, tree_of};
 
 use crate::function::function_at;
-use kern_expressions::{ReadEnd, Tokens};
-use kern_faults::{begins_function, program_end_at, text_end_at};
+use crate::parts::whole_program;
+use kern_expressions::{Tokens, WrongToken, pushed};
+use kern_lexer::TokenKind;
 use kern_syntax::{Function, Program};
 use std::alloc::Global;
 
-/// A program, which has a function at least, and its End. Where memory was refused to building it,
-/// its tokens are gone over a second time, so that a first fault is named in any case.
+/// A program, which has a function at least, and its End. It is missing where memory was refused.
 pub fn program_at<'a>(
     alloc: Global,
     tokens: Tokens<'a>,
-) -> Result<(Program, Tokens<'a>), ReadEnd<'a>>
-    ensures taken { GivesTaken tree_of result (run program_plan (lexemes_left tokens.entry)) }
-    ensures memory { IfErr result (NeedsTree (run program_plan (lexemes_left tokens.entry))) }
-{
-    match built_program_at(alloc, tokens) {
-        Ok((program, rest)) => Ok((program, rest)),
-        Err(ReadEnd::Fault(left)) => Err(ReadEnd::Fault(left)),
-        Err(ReadEnd::Memory) => Err(end_without_memory(tokens)),
-    }
-}
-
-// Why the tokens of a program give no tree where memory was refused: a first fault, if they have
-// one.
-fn end_without_memory<'a>(tokens: Tokens<'a>) -> ReadEnd<'a>
-    ensures taken { IsTakenEnd result (run program_plan (lexemes_left tokens.entry)) }
-    ensures memory { NeedsTree (run program_plan (lexemes_left tokens.entry)) result }
-{
-    match program_end_at(tokens) {
-        Ok(_) => ReadEnd::Memory,
-        Err(wrong) => ReadEnd::Fault(wrong.left),
-    }
-}
-
-// A program and its End, unless memory is refused.
-fn built_program_at<'a>(
-    alloc: Global,
-    tokens: Tokens<'a>,
-) -> Result<(Program, Tokens<'a>), ReadEnd<'a>>
+) -> Result<(Option<Program>, Tokens<'a>), WrongToken<'a>>
     ensures { GivesTaken tree_of result (run program_plan (lexemes_left tokens.entry)) }
 {
-    let (first, rest) = function_at(alloc, tokens)?;
-    let (functions, rest) = functions_at(alloc, first, rest)?;
-    let rest = text_end_at(rest)?;
-    Ok((Program::of(functions), rest))
+    let (functions, end) = functions_at(alloc, tokens)?;
+    let rest = text_end_at(end)?;
+    Ok((whole_program(functions), rest))
 }
 
-// The functions behind the first, and the first before them.
+// Whether a further function has to follow: anything but the End stands here.
+fn begins_function(tokens: Tokens) -> bool
+    ensures { result ≡ begins_with is_function (lexemes_left tokens.entry) }
+{
+    match tokens.list {
+        [] => false,
+        [first, ..] => !matches!(first.kind, TokenKind::End),
+    }
+}
+
+// The End.
+fn text_end_at<'a>(tokens: Tokens<'a>) -> Result<Tokens<'a>, WrongToken<'a>>
+    ensures { FindsRest result (first_seen text_end (lexemes_left tokens.entry)) }
+{
+    match tokens.list {
+        [] => Err(WrongToken { left: tokens }),
+        [first, ..] => match first.kind {
+            TokenKind::End => Ok(tokens.tail()),
+            _ => Err(WrongToken { left: tokens }),
+        },
+    }
+}
+
+// The functions of a program, of which there is one at least.
 fn functions_at<'a>(
     alloc: Global,
-    first: Function,
     tokens: Tokens<'a>,
-) -> Result<(Vec<Function>, Tokens<'a>), ReadEnd<'a>>
+) -> Result<(Option<Vec<Function>>, Tokens<'a>), WrongToken<'a>>
     ensures { GivesTaken (λ v. map function_of v.items) result
-        (and_more (function_of first) (many is_function (run function_plan) (lexemes_left tokens.entry))) }
+        (several is_function (run function_plan) (lexemes_left tokens.entry)) }
 {
-    let mut functions = Vec::new(alloc);
-    functions.push(first)?;
+    let mut functions = Some(Vec::new(alloc));
     let mut rest = tokens;
-    'functions: while begins_function(rest) {
+    'functions: loop {
         let (function, behind) = function_at(alloc, rest)?;
-        functions.push(function)?;
+        functions = pushed(functions, function);
+        if !begins_function(behind) {
+            return Ok((functions, behind));
+        }
         rest = behind;
     }
-    Ok((functions, rest))
 }

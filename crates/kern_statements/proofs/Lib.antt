@@ -1,2 +1,4 @@
+pub mod Arrays
+pub mod Going
 pub mod ManyLists
 pub mod Performed

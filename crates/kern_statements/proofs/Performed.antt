@@ -11,17 +11,15 @@ use Rattle.kern_lexer.specs.declared.token.Token.{Token}
 use Rattle.kern_lexer.specs.declared.token.TokenKind.{TokenKind}
 use Rattle.kern_lexer.specs.declared.token.TokenKind.TheVariants as T
 use Rattle.kern_syntax.specs.Tree.{Expression, Statement}
-use Rattle.kern_syntax.specs.TreeOf.{augment_of}
 use Rattle.kern_syntax.specs.declared.statement.Augment.{Augment}
-use Rattle.kern_syntax.specs.declared.statement.Target.{Target}
-use Rattle.kern_syntax.specs.declared.statement.Target.TheVariants as G
 use Rattle.kern_expressions.specs.declared.tokens.Tokens.{Tokens}
 use Rattle.kern_grammar.specs.Plans.{Taken, ◌>>=◌, Plan, done, token, peek, part, last, run}
 use Rattle.kern_grammar.specs.Reading.{choose}
 use Rattle.kern_grammar.specs.SimplePlans.{an_expression, by_expression, deed_plan, end_line, simple_plan}
 use Rattle.kern_expressions.specs.TakenBy.{perform, lexemes_left}
-use Rattle.kern_statements.specs.LineSteps.{place_of_target}
-use Rattle.kern_grammar.specs.Views.{is_seen, line_end, open_bracket, opening, Place, place_of, Tail, tail_of, Deed, augments_at, deed_of, deed}
+use Rattle.kern_statements.specs.LineSteps.{HasPlace, IsPlace, augment_at, place_plan}
+use Rattle.kern_statements.specs.declared.parts.ReadPlace.{ReadPlace}
+use Rattle.kern_grammar.specs.Views.{is_seen, line_end, open_bracket, opening, Place, to_name, to_element, place_of, Tail, assigns, augments, tail_of, Deed, assigns_to, augments_at, deed_of, deed}
 
 -- two ways on from one answer
 same_next : {A B : Type 0} (r : Taken A) (f g : A × List Lexeme → Taken B) → ((x : A × List Lexeme) → f x ≡ g x) → (r >>= f) ≡ (r >>= g)
@@ -112,10 +110,36 @@ others_by_expression build text at len (T.Key k) tokens h = absurd (h k refl)
 others_by_expression build text at len kind tokens h = refl
 
 -- an assignment behind its sign
-pub augmented_plan : {A : Type 0} (build : Statement → A) (e : Expression) (op : Augment) (target : Target) (tokens : List Lexeme) → perform (deed_plan build e (augments_at (place_of_target target) op)) tokens ≡ perform (an_expression 16 (λ v. end_line (build (augment_of target op v)))) tokens
-augmented_plan build e op (G.Variable x) tokens = refl
-augmented_plan build e op (G.Element x i) tokens = refl
+pub augmented_plan : {A : Type 0} (build : Statement → A) (e : Expression) (op : Augment) (place : Place) (tokens : List Lexeme) → perform (deed_plan build e (augments_at place op)) tokens ≡ perform (an_expression 16 (λ v. end_line (build (augment_at place op v)))) tokens
+augmented_plan build e op (to_name x) tokens = refl
+augmented_plan build e op (to_element x i) tokens = refl
+
+pub assigned_plan : {A : Type 0} (build : Statement → A) (e : Expression) (place : Place) (tokens : List Lexeme) → perform (deed_plan build e (assigns_to place)) tokens ≡ perform (place_plan build place) tokens
+assigned_plan build e (to_name x) tokens = refl
+assigned_plan build e (to_element x i) tokens = refl
 
 pub deed_there : {A : Type 0} (build : Statement → A) (e : Expression) (place : Place) (tail : Tail) (does : Deed) (t : Lexeme) (rest : List Lexeme) → place_of e ≡ Some place → tail_of t.symbol ≡ Some tail → deed_of (Some place) (Some tail) ≡ Some does → perform (token (deed e) (deed_plan build e)) (t ∷ rest) ≡ perform (deed_plan build e does) rest
 deed_there build e place tail does t rest p s d =
     ap (λ o. choose o (Err (t ∷ rest)) (λ v. Ok (v, rest)) >>= λ v. perform (deed_plan build e v.0) v.1) (ap (λ q. deed_of q (tail_of t.symbol)) p ∙ ap (deed_of (Some place)) s ∙ d)
+
+-- an assignment to the place that an expression has
+pub assignment_there : {A : Type 0} (build : Statement → A) (e : Expression) (place : Place) (tokens rest : Tokens) → 1 ≤ length tokens.list.now → first_kind tokens ≡ T.Sign S.Assign → lexemes_left rest ≡ drop 1 (lexemes_left tokens) → place_of e ≡ Some place → perform (token (deed e) (deed_plan build e)) (lexemes_left tokens) ≡ perform (place_plan build place) (lexemes_left rest)
+assignment_there build e place tokens rest h k l p =
+    ap (perform (token (deed e) (deed_plan build e))) (front tokens rest (T.Sign S.Assign) h k l)
+    ∙ deed_there build e place assigns (assigns_to place) (first_as tokens (T.Sign S.Assign)) (lexemes_left rest) p refl refl
+    ∙ assigned_plan build e place (lexemes_left rest)
+
+pub augmented_there : {A : Type 0} (build : Statement → A) (e : Expression) (place : Place) (mark : Sign) (op : Augment) (tokens rest : Tokens) → 1 ≤ length tokens.list.now → first_kind tokens ≡ T.Sign mark → tail_of (sign mark) ≡ Some (augments op) → lexemes_left rest ≡ drop 1 (lexemes_left tokens) → place_of e ≡ Some place → perform (token (deed e) (deed_plan build e)) (lexemes_left tokens) ≡ perform (an_expression 16 (λ v. end_line (build (augment_at place op v)))) (lexemes_left rest)
+augmented_there build e place mark op tokens rest h k t l p =
+    ap (perform (token (deed e) (deed_plan build e))) (front tokens rest (T.Sign mark) h k l)
+    ∙ deed_there build e place (augments op) (augments_at place op) (first_as tokens (T.Sign mark)) (lexemes_left rest) p t refl
+    ∙ augmented_plan build e op place (lexemes_left rest)
+
+-- the place that was found, or none
+pub has_place : (place : ReadPlace) (o : Option Place) → HasPlace (Some place) o → (p : Place) × (o ≡ Some p) × IsPlace place p
+has_place place (Some p) h = (p, refl, h)
+has_place place None h = absurd h
+
+pub no_place : (o : Option Place) → HasPlace None o → o ≡ None
+no_place (Some p) h = absurd h
+no_place None h = refl

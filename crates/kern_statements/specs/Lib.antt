@@ -1,2 +1,3 @@
 pub mod Headers
 pub mod LineSteps
+pub mod Several

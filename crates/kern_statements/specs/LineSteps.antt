@@ -1,16 +1,20 @@
 -- For the proofs alone: the steps of the code that reads statements on
 -- one line, which are parts of the plans, and what its values stand for.
-use Rattle.std.specs.Prelude.{ℕ}
+use Rattle.std.specs.Prelude.{ℕ, List, ◌∷◌, Option, Some, None}
 use Rattle.kern_lexer.specs.Bytes.{Bytes}
+use Rattle.kern_syntax.specs.declared.statement.Augment.{Augment}
 use Rattle.kern_syntax.specs.declared.statement.Stmt.{Stmt}
 use Rattle.kern_syntax.specs.declared.statement.StmtKind.{StmtKind}
 use Rattle.kern_syntax.specs.declared.statement.StmtKind.TheFolds.{fold-StmtKind}
 use Rattle.kern_syntax.specs.declared.statement.Target.{Target}
 use Rattle.kern_syntax.specs.declared.statement.Target.TheVariants as T
-use Rattle.kern_syntax.specs.Tree.{Statement, assign_element}
+use Rattle.kern_syntax.specs.Tree.{Expression, Statement, assign, assign_element, assign_list, augment, augment_element}
 use Rattle.kern_syntax.specs.Tree as Tree
 use Rattle.kern_syntax.specs.TreeOf.{Before, expression_of, statement_step}
 use Rattle.kern_syntax.specs.TreeOf.{block_step, elif_step, handler_step, line_step}
+use Rattle.kern_expressions.specs.Kept.{IsNamed, KeptAs}
+use Rattle.kern_statements.specs.declared.parts.ReadPlace.{ReadPlace}
+use Rattle.kern_statements.specs.declared.parts.ReadPlace.TheVariants as P
 use Rattle.kern_grammar.specs.Plans.{Plan, token, peek}
 use Rattle.kern_grammar.specs.SimplePlans.{Line, an_expression, array_end, assigned, end_line, more_elements}
 use Rattle.kern_grammar.specs.Views.{Place, to_name, to_element, close_bracket, is_seen, open_bracket}
@@ -37,7 +41,36 @@ abbrev pub place_plan : {A : Type 0} → (Statement → A) → Place → Plan A
 place_plan build (to_name x) = peek (λ t. assigned build x (is_seen (open_bracket t.symbol)))
 place_plan build (to_element x i) = an_expression 16 (λ v. end_line (build (assign_element x i v)))
 
+-- an array from its closing bracket on
+abbrev pub closed_elements : {A : Type 0} → (Statement → A) → Bytes → Expression → List Expression → Plan A
+closed_elements build x e more = token close_bracket (λ seen. array_end build x e more)
+
+-- an array of several elements, behind the first
+abbrev pub elements_plan : {A : Type 0} → (Statement → A) → Bytes → Expression → Plan A
+elements_plan build x e =
+    more_elements (λ more. token close_bracket (λ seen. end_line (build (assign_list x (e ∷ more)))))
+
 -- an array behind its opening bracket
 abbrev pub array_plan : {A : Type 0} → (Statement → A) → Bytes → Plan A
-array_plan build x =
-    an_expression 15 (λ e. more_elements (λ more. token close_bracket (λ seen. array_end build x e more)))
+array_plan build x = an_expression 15 (λ e. more_elements (λ more. closed_elements build x e more))
+
+-- an assignment to a place
+abbrev pub assign_at : Place → Expression → Statement
+assign_at (to_name x) e = assign x e
+assign_at (to_element x i) e = assign_element x i e
+
+abbrev pub augment_at : Place → Augment → Expression → Statement
+augment_at (to_name x) op e = augment x op e
+augment_at (to_element x i) op e = augment_element x i op e
+
+-- what a statement assigns to, unless it was lost, is this place
+abbrev pub IsPlace : ReadPlace → Place → Type 0
+IsPlace (P.Name name) (to_name x) = IsNamed name x
+IsPlace (P.Element target) (to_element x i) = KeptAs place_of_target target (to_element x i)
+IsPlace place p = ⊥
+
+-- it is the place that an expression has, if any
+abbrev pub HasPlace : Option ReadPlace → Option Place → Type 0
+HasPlace (Some place) (Some p) = IsPlace place p
+HasPlace None None = Unit {0}
+HasPlace place p = ⊥

@@ -1,15 +1,16 @@
 // The headers of blocks, up to their colons.
 
-ghost use Rattle.std.specs.Prelude.{◌≡◌, None, true};
+ghost use Rattle.std.specs.Prelude.{None, Some, true};
 ghost use Rattle.kern_grammar.specs.BlockPlans.{range_plan};
 ghost use Rattle.kern_statements.specs.Headers.{bounds_of, bounds_plan, bracketed_bounds_plan, quoted_recording_plan, recording_name_plan, with_head, with_item_plan};
 ghost use Rattle.kern_grammar.specs.Plans.{done, token};
 ghost use Rattle.kern_expressions.specs.TakenBy.{FindsTaken, GivesTaken, lexemes_left, perform};
+ghost use Rattle.kern_expressions.specs.Kept.{KeptAs, ReadAs};
 ghost use Rattle.kern_grammar.specs.Views.{comma_or_close, recording};
-ghost use Rattle.kern_syntax.specs.TreeOf.{expression_of};
+ghost use Rattle.kern_syntax.specs.Tree.{Expression};
 
 use kern_expressions::{
-    ReadEnd, Tokens, WrongToken, close_parenthesis_at, dot_at, expression_at, in_at,
+    ReadExpr, Tokens, WrongToken, close_parenthesis_at, dot_at, expression_at, in_at,
     open_parenthesis_at, quoted_name, word_at,
 };
 use kern_lexer::{Sign, TokenKind};
@@ -33,8 +34,11 @@ pub enum WithItem {
     Record(Name),
 }
 
-/// The bounds of a `for`, from its key `in` on.
-pub fn bounds_at<'a>(alloc: Global, tokens: Tokens<'a>) -> Result<(Bounds, Tokens<'a>), ReadEnd<'a>>
+/// The bounds of a `for`, from its key `in` on, which are missing where memory was refused.
+pub fn bounds_at<'a>(
+    alloc: Global,
+    tokens: Tokens<'a>,
+) -> Result<(Option<Bounds>, Tokens<'a>), WrongToken<'a>>
     ensures { GivesTaken bounds_of result
         (perform (bounds_plan (λ from to. done (from, to))) (lexemes_left tokens.entry)) }
 {
@@ -47,7 +51,7 @@ pub fn bounds_at<'a>(alloc: Global, tokens: Tokens<'a>) -> Result<(Bounds, Token
 fn bracketed_bounds_at<'a>(
     alloc: Global,
     tokens: Tokens<'a>,
-) -> Result<(Bounds, Tokens<'a>), ReadEnd<'a>>
+) -> Result<(Option<Bounds>, Tokens<'a>), WrongToken<'a>>
     ensures { GivesTaken bounds_of result
         (perform (bracketed_bounds_plan (λ from to. done (from, to))) (lexemes_left tokens.entry)) }
 {
@@ -57,30 +61,40 @@ fn bracketed_bounds_at<'a>(
 }
 
 // The bounds from 0 to below a number.
-fn below(to: Expr) -> Bounds
-    ensures { bounds_of result ≡ (None, expression_of to) }
+fn below(to: ReadExpr) -> Option<Bounds>
+    ensures { (t : Expression) → ReadAs to t → KeptAs bounds_of result (None, t) }
 {
-    Bounds { from: None, to }
+    let to = to.tree()?;
+    Some(Bounds { from: None, to })
+}
+
+// The bounds from one number to below another.
+fn between(from: ReadExpr, to: ReadExpr) -> Option<Bounds>
+    ensures { (f t : Expression) → ReadAs from f → ReadAs to t → KeptAs bounds_of result (Some f, t) }
+{
+    let from = Some(from.tree()?);
+    let to = to.tree()?;
+    Some(Bounds { from, to })
 }
 
 // The upper bound behind a lower one, if there is one, and the closing parenthesis.
 fn bounds_end_at<'a>(
     alloc: Global,
-    first: Expr,
+    first: ReadExpr,
     tokens: Tokens<'a>,
-) -> Result<(Bounds, Tokens<'a>), ReadEnd<'a>>
-    ensures { GivesTaken bounds_of result
-        (perform (token comma_or_close (range_plan (λ from to. done (from, to)) (expression_of first))) (lexemes_left tokens.entry)) }
+) -> Result<(Option<Bounds>, Tokens<'a>), WrongToken<'a>>
+    ensures { (e : Expression) → ReadAs first e → GivesTaken bounds_of result
+        (perform (token comma_or_close (range_plan (λ from to. done (from, to)) e)) (lexemes_left tokens.entry)) }
 {
     match tokens.list {
-        [] => Err(ReadEnd::Fault(tokens)),
+        [] => Err(WrongToken { left: tokens }),
         [mark, ..] => match mark.kind {
             TokenKind::Sign(sign) => match sign {
                 Sign::Comma => upper_bound_at(alloc, first, tokens.tail()),
                 Sign::CloseParenthesis => Ok((below(first), tokens.tail())),
-                _ => Err(ReadEnd::Fault(tokens)),
+                _ => Err(WrongToken { left: tokens }),
             },
-            _ => Err(ReadEnd::Fault(tokens)),
+            _ => Err(WrongToken { left: tokens }),
         },
     }
 }
@@ -88,19 +102,15 @@ fn bounds_end_at<'a>(
 // The upper bound behind a lower one and its comma, and the closing parenthesis.
 fn upper_bound_at<'a>(
     alloc: Global,
-    from: Expr,
+    from: ReadExpr,
     tokens: Tokens<'a>,
-) -> Result<(Bounds, Tokens<'a>), ReadEnd<'a>>
-    ensures { GivesTaken bounds_of result
-        (perform (range_plan (λ from to. done (from, to)) (expression_of from) true) (lexemes_left tokens.entry)) }
+) -> Result<(Option<Bounds>, Tokens<'a>), WrongToken<'a>>
+    ensures { (e : Expression) → ReadAs from e → GivesTaken bounds_of result
+        (perform (range_plan (λ from to. done (from, to)) e true) (lexemes_left tokens.entry)) }
 {
     let (to, rest) = expression_at(alloc, 15, tokens)?;
     let rest = close_parenthesis_at(rest)?;
-    let bounds = Bounds {
-        from: Some(from),
-        to,
-    };
-    Ok((bounds, rest))
+    Ok((between(from, to), rest))
 }
 
 /// The item of a `with`.

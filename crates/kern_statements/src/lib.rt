@@ -2,6 +2,7 @@
 #![tactic(auto)]
 
 mod headers;
+mod parts;
 mod simple;
 
 pub use headers::{Bounds, WithItem, bounds_at, with_item_at};

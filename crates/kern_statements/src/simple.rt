@@ -1,70 +1,65 @@
 // Reading statements that stand on one line, from the front of tokens.
 
-ghost use Rattle.std.specs.Prelude.{◌≡◌, [], ◌∷◌, false, true, map, option_map, IfOk};
+ghost use Rattle.std.specs.Prelude.{◌≡◌, [], false, true, map};
+ghost use Rattle.kern_expressions.specs.Kept.{IsNamed, KeptAs, ReadAs};
+ghost use Rattle.kern_expressions.specs.TakenBy.{GivesTaken, TakesExpression, begins_with, lexemes_left, perform};
 ghost use Rattle.kern_grammar.specs.Plans.{many, peek, run, token};
-ghost use Rattle.kern_grammar.specs.SimplePlans.{an_expression, array_end, by_expression, comma_element, deed_plan, end_line, is_comma, repeated, returned, simple_plan};
-ghost use Rattle.kern_expressions.specs.TakenBy.{FindsTaken, GivesTaken, begins_with, lexemes_left, perform};
-ghost use Rattle.kern_statements.specs.LineSteps.{array_plan, line_of_statement, on, place_of_target, place_plan};
-ghost use Rattle.kern_grammar.specs.Views.{deed, is_seen, line_end, opening, place_of, to_name};
-ghost use Rattle.kern_syntax.specs.Tree.{assign_list};
-ghost use Rattle.kern_syntax.specs.TreeOf.{assign_to, augment_of, expression_of};
+ghost use Rattle.kern_grammar.specs.SimplePlans.{Line, an_expression, array_end, by_expression, comma_element, deed_plan, end_line, is_comma, repeated, returned, simple_plan};
+ghost use Rattle.kern_grammar.specs.Views.{Place, deed, is_seen, line_end, opening, to_name};
+ghost use Rattle.kern_lexer.specs.Bytes.{Bytes};
+ghost use Rattle.kern_statements.specs.LineSteps.{IsPlace, array_plan, assign_at, augment_at, closed_elements, elements_plan, line_of_statement, on, place_plan};
+ghost use Rattle.kern_syntax.specs.Tree.{Expression};
+ghost use Rattle.kern_syntax.specs.TreeOf.{expression_of};
 
-use kern_expressions::{ReadEnd, Tokens, WrongToken, close_bracket_at, expression_at, line_end_at};
+use crate::parts::{
+    ReadPlace, assigned, augmented, evaluated, listed, place_of, repeated, returned,
+};
+use kern_expressions::{
+    ReadExpr, Tokens, WrongToken, close_bracket_at, expression_at, line_end_at, pushed,
+};
 use kern_lexer::{Key, Sign, TokenKind};
-use kern_syntax::{Augment, Expr, Identifier, Stmt, StmtKind, Target};
-use std::alloc::{AllocError, Global};
-
-// What an expression assigns to, if it is a name or an element of an array.
-fn target_of(e: Expr) -> Option<Target>
-    ensures { option_map place_of_target result ≡ place_of (expression_of e) }
-{
-    match e {
-        Expr::Variable(name) => Some(Target::Variable(name)),
-        Expr::Index(array, index) => Some(Target::Element(array, Box::into_inner(index))),
-        _ => None,
-    }
-}
+use kern_syntax::{Augment, Expr, Identifier, Stmt, StmtKind};
+use std::alloc::Global;
 
 // A statement at the end of its line.
-fn ended_statement(statement: Stmt, tokens: Tokens) -> Result<(Stmt, Tokens), WrongToken>
-    ensures { FindsTaken line_of_statement result
-        (perform (end_line (line_of_statement statement)) (lexemes_left tokens.entry)) }
+fn ended_statement<'a>(
+    statement: Option<Stmt>,
+    tokens: Tokens<'a>,
+) -> Result<(Option<Stmt>, Tokens<'a>), WrongToken<'a>>
+    ensures { (x : Line) → KeptAs line_of_statement statement x →
+        GivesTaken line_of_statement result (perform (end_line x) (lexemes_left tokens.entry)) }
 {
     let rest = line_end_at(tokens)?;
     Ok((statement, rest))
 }
 
-// The value of an assignment to a target, and the end of the line.
+// The value of an assignment, and the end of the line.
 fn assigned_value_at<'a>(
     alloc: Global,
     line: u32,
-    target: Target,
+    place: ReadPlace,
     tokens: Tokens<'a>,
-) -> Result<(Stmt, Tokens<'a>), ReadEnd<'a>>
-    ensures { GivesTaken line_of_statement result
-        (perform (an_expression 16 (λ e. end_line (on line (assign_to target e)))) (lexemes_left tokens.entry)) }
+) -> Result<(Option<Stmt>, Tokens<'a>), WrongToken<'a>>
+    ensures { (p : Place) → IsPlace place p → GivesTaken line_of_statement result
+        (perform (an_expression 16 (λ e. end_line (on line (assign_at p e)))) (lexemes_left tokens.entry)) }
 {
     let (value, rest) = expression_at(alloc, 16, tokens)?;
-    let rest = line_end_at(rest)?;
-    let kind = StmtKind::Assign(target, value);
-    Ok((Stmt { line, kind }, rest))
+    ended_statement(assigned(line, place, value), rest)
 }
 
-// The value of an augmented assignment to a target, and the end of the line.
+// The value of an augmented assignment, and the end of the line.
 fn augmented_value_at<'a>(
     alloc: Global,
     line: u32,
-    target: Target,
+    place: ReadPlace,
     op: Augment,
     tokens: Tokens<'a>,
-) -> Result<(Stmt, Tokens<'a>), ReadEnd<'a>>
-    ensures { GivesTaken line_of_statement result
-        (perform (an_expression 16 (λ e. end_line (on line (augment_of target op e)))) (lexemes_left tokens.entry)) }
+) -> Result<(Option<Stmt>, Tokens<'a>), WrongToken<'a>>
+    ensures { (p : Place) → IsPlace place p → GivesTaken line_of_statement result
+        (perform (an_expression 16 (λ e. end_line (on line (augment_at p op e)))) (lexemes_left tokens.entry)) }
 {
     let (value, rest) = expression_at(alloc, 16, tokens)?;
-    let rest = line_end_at(rest)?;
-    let kind = StmtKind::Augmented(target, op, value);
-    Ok((Stmt { line, kind }, rest))
+    ended_statement(augmented(line, place, op, value), rest)
 }
 
 // The value of a `return`, or none, and the end of the line.
@@ -72,16 +67,16 @@ fn returned_at<'a>(
     alloc: Global,
     line: u32,
     tokens: Tokens<'a>,
-) -> Result<(Stmt, Tokens<'a>), ReadEnd<'a>>
+) -> Result<(Option<Stmt>, Tokens<'a>), WrongToken<'a>>
     ensures { GivesTaken line_of_statement result
         (perform (peek (λ t. returned (on line) (is_seen (line_end t.symbol)))) (lexemes_left tokens.entry)) }
 {
     match tokens.list {
-        [] => Err(ReadEnd::Fault(tokens)),
+        [] => Err(WrongToken { left: tokens }),
         [first, ..] => match first.kind {
             TokenKind::Newline => {
                 let kind = StmtKind::Return(None);
-                Ok((Stmt { line, kind }, tokens.tail()))
+                Ok((Some(Stmt { line, kind }), tokens.tail()))
             }
             _ => returned_value_at(alloc, line, tokens),
         },
@@ -93,75 +88,70 @@ fn returned_value_at<'a>(
     alloc: Global,
     line: u32,
     tokens: Tokens<'a>,
-) -> Result<(Stmt, Tokens<'a>), ReadEnd<'a>>
+) -> Result<(Option<Stmt>, Tokens<'a>), WrongToken<'a>>
     ensures { GivesTaken line_of_statement result
         (perform (returned (on line) false) (lexemes_left tokens.entry)) }
 {
     let (value, rest) = expression_at(alloc, 16, tokens)?;
-    let rest = line_end_at(rest)?;
-    let kind = StmtKind::Return(Some(value));
-    Ok((Stmt { line, kind }, rest))
+    ended_statement(returned(line, value), rest)
 }
 
 // The length of an array of one repeated element, and the end of the line.
 fn repeated_at<'a>(
     line: u32,
-    name: Identifier,
-    element: Expr,
+    name: Option<Identifier>,
+    element: ReadExpr,
     tokens: Tokens<'a>,
-) -> Result<(Stmt, Tokens<'a>), WrongToken<'a>>
-    ensures { FindsTaken line_of_statement result
-        (perform (repeated (on line) name (expression_of element) true) (lexemes_left tokens.entry)) }
+) -> Result<(Option<Stmt>, Tokens<'a>), WrongToken<'a>>
+    ensures { (x : Bytes) (e : Expression) → IsNamed name x → ReadAs element e → GivesTaken line_of_statement result
+        (perform (repeated (on line) x e true) (lexemes_left tokens.entry)) }
 {
     match tokens.list {
         [] => Err(WrongToken { left: tokens }),
         [first, ..] => match first.kind {
             TokenKind::Integer(length) => {
-                let kind = StmtKind::ArrayRepeat(name, element, length);
-                ended_statement(Stmt { line, kind }, tokens.tail())
+                ended_statement(repeated(line, name, element, length), tokens.tail())
             }
             _ => Err(WrongToken { left: tokens }),
         },
     }
 }
 
-// An array of these elements, of which there is a first.
-fn listed(
+// An array of one element or of one that is repeated, from the closing bracket on.
+fn lone_element_at<'a>(
     alloc: Global,
     line: u32,
-    name: Identifier,
-    first: Expr,
-    more: Vec<Expr>,
-) -> Result<Stmt, AllocError>
-    ensures { IfOk result (λ s. line_of_statement s ≡
-        on line (assign_list name (expression_of first ∷ map expression_of more.items))) }
+    name: Option<Identifier>,
+    element: ReadExpr,
+    tokens: Tokens<'a>,
+) -> Result<(Option<Stmt>, Tokens<'a>), WrongToken<'a>>
+    ensures { (x : Bytes) (e : Expression) → IsNamed name x → ReadAs element e → GivesTaken line_of_statement result
+        (perform (closed_elements (on line) x e []) (lexemes_left tokens.entry)) }
 {
-    let mut elements = more;
-    elements.insert(0, first)?;
-    let kind = StmtKind::ArrayList(name, elements);
-    Ok(Stmt { line, kind })
+    let rest = close_bracket_at(tokens)?;
+    one_element_at(alloc, line, name, element, rest)
 }
 
-// An array of one element or of one that is repeated, from what follows the closing bracket on.
+// What follows the closing bracket of an array of one element.
 fn one_element_at<'a>(
     alloc: Global,
     line: u32,
-    name: Identifier,
-    element: Expr,
+    name: Option<Identifier>,
+    element: ReadExpr,
     tokens: Tokens<'a>,
-) -> Result<(Stmt, Tokens<'a>), ReadEnd<'a>>
-    ensures { GivesTaken line_of_statement result
-        (perform (array_end (on line) name (expression_of element) []) (lexemes_left tokens.entry)) }
+) -> Result<(Option<Stmt>, Tokens<'a>), WrongToken<'a>>
+    ensures { (x : Bytes) (e : Expression) → IsNamed name x → ReadAs element e → GivesTaken line_of_statement result
+        (perform (array_end (on line) x e []) (lexemes_left tokens.entry)) }
 {
     match tokens.list {
-        [] => Err(ReadEnd::Fault(tokens)),
+        [] => Err(WrongToken { left: tokens }),
         [first, ..] => match first.kind {
-            TokenKind::Sign(Sign::Star) => Ok(repeated_at(line, name, element, tokens.tail())?),
+            TokenKind::Sign(Sign::Star) => repeated_at(line, name, element, tokens.tail()),
             TokenKind::Newline => {
-                let statement = listed(alloc, line, name, element, Vec::new(alloc))?;
+                let statement = listed(line, name, element, Some(Vec::new(alloc)));
                 Ok((statement, tokens.tail()))
             }
-            _ => Err(ReadEnd::Fault(tokens)),
+            _ => Err(WrongToken { left: tokens }),
         },
     }
 }
@@ -170,14 +160,14 @@ fn one_element_at<'a>(
 fn comma_element_at<'a>(
     alloc: Global,
     tokens: Tokens<'a>,
-) -> Result<(Expr, Tokens<'a>), ReadEnd<'a>>
-    ensures { GivesTaken expression_of result (run comma_element (lexemes_left tokens.entry)) }
+) -> Result<(ReadExpr, Tokens<'a>), WrongToken<'a>>
+    ensures { TakesExpression result (run comma_element (lexemes_left tokens.entry)) }
 {
     match tokens.list {
-        [] => Err(ReadEnd::Fault(tokens)),
+        [] => Err(WrongToken { left: tokens }),
         [first, ..] => match first.kind {
             TokenKind::Sign(Sign::Comma) => expression_at(alloc, 15, tokens.tail()),
-            _ => Err(ReadEnd::Fault(tokens)),
+            _ => Err(WrongToken { left: tokens }),
         },
     }
 }
@@ -197,44 +187,33 @@ pub fn begins_with_comma(tokens: Tokens) -> bool
 fn deed_at<'a>(
     alloc: Global,
     line: u32,
-    e: Expr,
+    e: ReadExpr,
     tokens: Tokens<'a>,
-) -> Result<(Stmt, Tokens<'a>), ReadEnd<'a>>
-    ensures { GivesTaken line_of_statement result
-        (perform (token (deed (expression_of e)) (deed_plan (on line) (expression_of e))) (lexemes_left tokens.entry)) }
+) -> Result<(Option<Stmt>, Tokens<'a>), WrongToken<'a>>
+    ensures { (tree : Expression) → ReadAs e tree → GivesTaken line_of_statement result
+        (perform (token (deed tree) (deed_plan (on line) tree)) (lexemes_left tokens.entry)) }
 {
     match tokens.list {
-        [] => Err(ReadEnd::Fault(tokens)),
+        [] => Err(WrongToken { left: tokens }),
         [first, ..] => match first.kind {
-            TokenKind::Newline => {
-                let kind = StmtKind::Evaluate(e);
-                Ok((Stmt { line, kind }, tokens.tail()))
-            }
-            TokenKind::Sign(Sign::Assign) => match target_of(e) {
-                Some(target) => assigned_at(alloc, line, target, tokens.tail()),
-                None => Err(ReadEnd::Fault(tokens)),
+            TokenKind::Newline => Ok((evaluated(line, e), tokens.tail())),
+            TokenKind::Sign(Sign::Assign) => match place_of(e) {
+                Some(place) => assigned_at(alloc, line, place, tokens.tail()),
+                None => Err(WrongToken { left: tokens }),
             },
-            TokenKind::Sign(Sign::AddAssign) => match target_of(e) {
-                Some(target) => augmented_value_at(
-                    alloc,
-                    line,
-                    target,
-                    Augment::Add,
-                    tokens.tail(),
-                ),
-                None => Err(ReadEnd::Fault(tokens)),
+            TokenKind::Sign(Sign::AddAssign) => match place_of(e) {
+                Some(place) => {
+                    augmented_value_at(alloc, line, place, Augment::Add, tokens.tail())
+                }
+                None => Err(WrongToken { left: tokens }),
             },
-            TokenKind::Sign(Sign::SubtractAssign) => match target_of(e) {
-                Some(target) => augmented_value_at(
-                    alloc,
-                    line,
-                    target,
-                    Augment::Subtract,
-                    tokens.tail(),
-                ),
-                None => Err(ReadEnd::Fault(tokens)),
+            TokenKind::Sign(Sign::SubtractAssign) => match place_of(e) {
+                Some(place) => {
+                    augmented_value_at(alloc, line, place, Augment::Subtract, tokens.tail())
+                }
+                None => Err(WrongToken { left: tokens }),
             },
-            _ => Err(ReadEnd::Fault(tokens)),
+            _ => Err(WrongToken { left: tokens }),
         },
     }
 }
@@ -243,17 +222,20 @@ fn deed_at<'a>(
 fn assigned_at<'a>(
     alloc: Global,
     line: u32,
-    target: Target,
+    place: ReadPlace,
     tokens: Tokens<'a>,
-) -> Result<(Stmt, Tokens<'a>), ReadEnd<'a>>
-    ensures { GivesTaken line_of_statement result
-        (perform (place_plan (on line) (place_of_target target)) (lexemes_left tokens.entry)) }
+) -> Result<(Option<Stmt>, Tokens<'a>), WrongToken<'a>>
+    ensures { (p : Place) → IsPlace place p →
+        GivesTaken line_of_statement result (perform (place_plan (on line) p) (lexemes_left tokens.entry)) }
 {
-    match target {
-        Target::Variable(name) => name_assigned_at(alloc, line, name, tokens),
-        Target::Element(array, index) => {
-            assigned_value_at(alloc, line, Target::Element(array, index), tokens)
-        }
+    match place {
+        ReadPlace::Name(name) => name_assigned_at(alloc, line, name, tokens),
+        ReadPlace::Element(target) => assigned_value_at(
+            alloc,
+            line,
+            ReadPlace::Element(target),
+            tokens,
+        ),
     }
 }
 
@@ -261,73 +243,73 @@ fn assigned_at<'a>(
 fn name_assigned_at<'a>(
     alloc: Global,
     line: u32,
-    name: Identifier,
+    name: Option<Identifier>,
     tokens: Tokens<'a>,
-) -> Result<(Stmt, Tokens<'a>), ReadEnd<'a>>
-    ensures { GivesTaken line_of_statement result
-        (perform (place_plan (on line) (to_name name)) (lexemes_left tokens.entry)) }
+) -> Result<(Option<Stmt>, Tokens<'a>), WrongToken<'a>>
+    ensures { (x : Bytes) → IsNamed name x →
+        GivesTaken line_of_statement result (perform (place_plan (on line) (to_name x)) (lexemes_left tokens.entry)) }
 {
     match tokens.list {
-        [] => Err(ReadEnd::Fault(tokens)),
+        [] => Err(WrongToken { left: tokens }),
         [first, ..] => match first.kind {
             TokenKind::Sign(sign) => match sign {
                 Sign::OpenBracket => array_at(alloc, line, name, tokens.tail()),
-                _ => assigned_value_at(alloc, line, Target::Variable(name), tokens),
+                _ => assigned_value_at(alloc, line, ReadPlace::Name(name), tokens),
             },
-            _ => assigned_value_at(alloc, line, Target::Variable(name), tokens),
+            _ => assigned_value_at(alloc, line, ReadPlace::Name(name), tokens),
         },
     }
 }
 
 // The elements of an array, of which the first is an expression, with the closing bracket and
-// the end of the line.
+// the end of the line. An element that stands alone may be repeated.
 fn array_at<'a>(
     alloc: Global,
     line: u32,
-    name: Identifier,
+    name: Option<Identifier>,
     tokens: Tokens<'a>,
-) -> Result<(Stmt, Tokens<'a>), ReadEnd<'a>>
-    ensures { GivesTaken line_of_statement result (perform (array_plan (on line) name) (lexemes_left tokens.entry)) }
+) -> Result<(Option<Stmt>, Tokens<'a>), WrongToken<'a>>
+    ensures { (x : Bytes) → IsNamed name x →
+        GivesTaken line_of_statement result (perform (array_plan (on line) x) (lexemes_left tokens.entry)) }
 {
     let (first, rest) = expression_at(alloc, 15, tokens)?;
-    let (more, rest) = more_elements_at(alloc, rest)?;
-    let rest = close_bracket_at(rest)?;
-    array_end_at(alloc, line, name, first, more, rest)
+    if begins_with_comma(rest) {
+        elements_at(alloc, line, name, first, rest)
+    } else {
+        lone_element_at(alloc, line, name, first, rest)
+    }
 }
 
-// What follows the closing bracket of an array.
-fn array_end_at<'a>(
+// The elements of an array behind its first, of which there is one at least, with the closing
+// bracket and the end of the line.
+fn elements_at<'a>(
     alloc: Global,
     line: u32,
-    name: Identifier,
-    first: Expr,
-    more: Vec<Expr>,
+    name: Option<Identifier>,
+    first: ReadExpr,
     tokens: Tokens<'a>,
-) -> Result<(Stmt, Tokens<'a>), ReadEnd<'a>>
-    ensures { GivesTaken line_of_statement result
-        (perform (array_end (on line) name (expression_of first) (map expression_of more.items)) (lexemes_left tokens.entry)) }
+) -> Result<(Option<Stmt>, Tokens<'a>), WrongToken<'a>>
+    ensures { (x : Bytes) (e : Expression) → IsNamed name x → ReadAs first e →
+        GivesTaken line_of_statement result (perform (elements_plan (on line) x e) (lexemes_left tokens.entry)) }
 {
-    if more.is_empty() {
-        return one_element_at(alloc, line, name, first, tokens);
-    }
-    let rest = line_end_at(tokens)?;
-    let statement = listed(alloc, line, name, first, more)?;
-    Ok((statement, rest))
+    let (more, rest) = more_elements_at(alloc, tokens)?;
+    let rest = close_bracket_at(rest)?;
+    ended_statement(listed(line, name, first, more), rest)
 }
 
 // The further elements of an array, each behind a comma.
 fn more_elements_at<'a>(
     alloc: Global,
     tokens: Tokens<'a>,
-) -> Result<(Vec<Expr>, Tokens<'a>), ReadEnd<'a>>
+) -> Result<(Option<Vec<Expr>>, Tokens<'a>), WrongToken<'a>>
     ensures { GivesTaken (λ v. map expression_of v.items) result
         (many is_comma (run comma_element) (lexemes_left tokens.entry)) }
 {
-    let mut elements = Vec::new(alloc);
+    let mut elements = Some(Vec::new(alloc));
     let mut rest = tokens;
     'items: while begins_with_comma(rest) {
         let (element, behind) = comma_element_at(alloc, rest)?;
-        elements.push(element)?;
+        elements = pushed(elements, element.tree());
         rest = behind;
     }
     Ok((elements, rest))
@@ -338,37 +320,37 @@ fn expression_statement_at<'a>(
     alloc: Global,
     line: u32,
     tokens: Tokens<'a>,
-) -> Result<(Stmt, Tokens<'a>), ReadEnd<'a>>
+) -> Result<(Option<Stmt>, Tokens<'a>), WrongToken<'a>>
     ensures { GivesTaken line_of_statement result (perform (by_expression (on line)) (lexemes_left tokens.entry)) }
 {
     let (e, rest) = expression_at(alloc, 16, tokens)?;
     deed_at(alloc, line, e, rest)
 }
 
-/// A statement on one line, with its Newline.
+/// A statement on one line, with its Newline, which is missing where memory was refused.
 pub fn simple_at<'a>(
     alloc: Global,
     line: u32,
     tokens: Tokens<'a>,
-) -> Result<(Stmt, Tokens<'a>), ReadEnd<'a>>
+) -> Result<(Option<Stmt>, Tokens<'a>), WrongToken<'a>>
     ensures { GivesTaken line_of_statement result
         (perform (peek (λ t. simple_plan (on line) (opening t.symbol))) (lexemes_left tokens.entry)) }
 {
     match tokens.list {
-        [] => Err(ReadEnd::Fault(tokens)),
+        [] => Err(WrongToken { left: tokens }),
         [first, ..] => match first.kind {
             TokenKind::Key(key) => match key {
                 Key::Pass => {
                     let kind = StmtKind::Pass;
-                    Ok(ended_statement(Stmt { line, kind }, tokens.tail())?)
+                    ended_statement(Some(Stmt { line, kind }), tokens.tail())
                 }
                 Key::Break => {
                     let kind = StmtKind::Break;
-                    Ok(ended_statement(Stmt { line, kind }, tokens.tail())?)
+                    ended_statement(Some(Stmt { line, kind }), tokens.tail())
                 }
                 Key::Continue => {
                     let kind = StmtKind::Continue;
-                    Ok(ended_statement(Stmt { line, kind }, tokens.tail())?)
+                    ended_statement(Some(Stmt { line, kind }), tokens.tail())
                 }
                 Key::Return => returned_at(alloc, line, tokens.tail()),
                 _ => expression_statement_at(alloc, line, tokens),

@@ -1,8 +1,9 @@
-use Rattle.std.proofs.Common.{◌≡◌, ◌-◌, ◌+◌, ◌*◌, suc, length}
+use Rattle.std.proofs.Common.{◌≡◌, ◌-◌, ◌+◌, ◌*◌, suc, length, List, map}
 use Rattle.std.specs.Prelude.{Ok}
+use Rattle.kern_syntax.specs.Tree.{Expression}
 use Rattle.kern_expressions.specs.Given.{symbols_left}
-use Rattle.kern_grammar.specs.Reading.{items, level_reader, row_behind, inside_of}
-use Rattle.kern_syntax.specs.TreeOf.{expression_of}
+use Rattle.kern_expressions.specs.Kept.{KeptAs, ReadAs, item_of}
+use Rattle.kern_grammar.specs.Reading.{Item, items, level_reader, row_behind, inside_of}
 use Rattle.kern_expressions.proofs.ArgumentLists.{ArgumentsSoFar}
 use Rattle.kern_expressions.proofs.Passing.{Reaches}
 use Rattle.kern_expressions.proofs.+levels.Given as goal
@@ -63,24 +64,25 @@ decreases-expression::negation_at l = 64 * l.room + 46
 
 abbrev pub invariant-atom::items_at-items : goal.invariant-atom::items_at-items
 invariant-atom::items_at-items l =
-    ArgumentsSoFar (inside_of l.room) l.arguments.items (symbols_left l.rest) (items (inside_of l.room) (suc (length (symbols_left l.tokens))) (symbols_left l.tokens))
+    (done : List Item) × KeptAs (λ v. map item_of v.items) l.arguments done
+    × ArgumentsSoFar (inside_of l.room) done (symbols_left l.rest) (items (inside_of l.room) (suc (length (symbols_left l.tokens))) (symbols_left l.tokens))
 
 abbrev pub decreases-atom::items_at-items : goal.decreases-atom::items_at-items
 decreases-atom::items_at-items l = length (symbols_left l.rest)
 
 abbrev pub invariant-expression::level_at-levels : goal.invariant-expression::level_at-levels
-invariant-expression::level_at-levels l = record {
-  reaches : Reaches l.level l.reached (symbols_left l.tokens);
-  same : level_reader (inside_of l.room) l.reached (symbols_left l.tokens) ≡ Ok (expression_of l.e, symbols_left l.rest);
-}
+invariant-expression::level_at-levels l =
+    (tree : Expression) × ReadAs l.e tree × Reaches l.level l.reached (symbols_left l.tokens)
+    × (level_reader (inside_of l.room) l.reached (symbols_left l.tokens) ≡ Ok (tree, symbols_left l.rest))
 
 abbrev pub decreases-expression::level_at-levels : goal.decreases-expression::level_at-levels
 decreases-expression::level_at-levels l = l.level - l.reached
 
 abbrev pub invariant-expression::row_at-turns : goal.invariant-expression::row_at-turns
 invariant-expression::row_at-turns l =
-    row_behind l.more l.level (level_reader (inside_of l.room) (l.level - 1)) (expression_of l.e) (symbols_left l.rest)
-    ≡ row_behind 16 l.level (level_reader (inside_of l.room) (l.level - 1)) (expression_of l.fn.left) (symbols_left l.tokens)
+    (left : Expression) → ReadAs l.fn.left left → (tree : Expression) × ReadAs l.e tree
+    × (row_behind l.more l.level (level_reader (inside_of l.room) (l.level - 1)) tree (symbols_left l.rest)
+    ≡ row_behind 16 l.level (level_reader (inside_of l.room) (l.level - 1)) left (symbols_left l.tokens))
 
 abbrev pub decreases-expression::row_at-turns : goal.decreases-expression::row_at-turns
 decreases-expression::row_at-turns l = l.more

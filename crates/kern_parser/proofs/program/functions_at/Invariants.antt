@@ -1,16 +1,15 @@
-use Rattle.std.proofs.Common.{◌≡◌, length, map}
+use Rattle.std.proofs.Common.{length, map}
 use Rattle.kern_syntax.specs.TreeOf.{function_of}
 use Rattle.kern_grammar.specs.BlockPlans.{function_plan, is_function}
-use Rattle.kern_blocks.specs.BlockSteps.{and_more}
-use Rattle.kern_grammar.specs.Plans.{many, run}
+use Rattle.kern_grammar.specs.Plans.{run}
 use Rattle.kern_expressions.specs.TakenBy.{lexemes_left}
-use Rattle.kern_statements.proofs.ManyLists.{with_first}
+use Rattle.kern_statements.specs.Several.{several}
+use Rattle.kern_statements.proofs.ManyLists.{SeveralSoFar}
 use Rattle.kern_parser.proofs.program.functions_at.Given as goal
 
 abbrev pub invariant-functions : goal.invariant-functions
 invariant-functions l =
-    with_first (map function_of l.functions.items) (many is_function (run function_plan) (lexemes_left l.rest))
-    ≡ and_more (function_of l.fn.first) (many is_function (run function_plan) (lexemes_left l.tokens))
+    SeveralSoFar (λ v. map function_of v.items) l.functions is_function (run function_plan) (lexemes_left l.rest) (several is_function (run function_plan) (lexemes_left l.tokens))
 
 abbrev pub decreases-functions : goal.decreases-functions
 decreases-functions l = length (lexemes_left l.rest)

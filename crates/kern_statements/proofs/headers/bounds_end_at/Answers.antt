@@ -1,7 +1,6 @@
 use Rattle.std.proofs.Common.{sym, ◌∙◌, ap, subst}
 use Rattle.kern_lexer.specs.declared.token.Sign.TheVariants as S
 use Rattle.kern_lexer.specs.declared.token.TokenKind.TheVariants as T
-use Rattle.kern_syntax.specs.TreeOf.{expression_of}
 use Rattle.kern_grammar.specs.BlockPlans.{range_plan}
 use Rattle.kern_statements.specs.Headers.{BoundTrees, bounds_of}
 use Rattle.kern_grammar.specs.Plans.{Plan, done, token}
@@ -11,7 +10,7 @@ use Rattle.kern_statements.proofs.Performed.{front}
 use Rattle.kern_statements.proofs.headers.bounds_end_at.Goals as goal
 
 pub returns-in-Comma : goal.returns-in-Comma
-returns-in-Comma c =
-    let plan : Plan BoundTrees = token comma_or_close (range_plan (λ from to. done (from, to)) (expression_of c.args.first)) in
+returns-in-Comma c = λ e k.
+    let plan : Plan BoundTrees = token comma_or_close (range_plan (λ from to. done (from, to)) e) in
     let same = ap (perform plan) (front c.args.tokens c.tail.result (T.Sign S.Comma) c.in-len1-up.len_at_least (c.in-Sign.is ∙ ap (λ s. T.Sign s) c.in-Comma.is) c.tail.ensures.lexemes) in
-    subst (GivesTaken bounds_of c.upper_bound_at.result) (sym same) c.upper_bound_at.ensures
+    subst (GivesTaken bounds_of c.upper_bound_at.result) (sym same) (c.upper_bound_at.ensures e k)

@@ -1,14 +1,13 @@
-use Rattle.std.proofs.Common.{◌≡◌, ℕ, List, ◌∷◌, refl, sym, ◌∙◌, ap, subst, rules}
-use Rattle.kern_lexer.specs.Symbols.{Lexeme}
+use Rattle.std.proofs.Common.{◌≡◌, ℕ, sym, ◌∙◌, ap, subst, rules}
 use Rattle.kern_lexer.specs.declared.token.Key.TheVariants as K
 use Rattle.kern_lexer.specs.declared.token.TokenKind.TheVariants as T
 use Rattle.kern_syntax.specs.Tree.{pass, break, continue}
 use Rattle.kern_syntax.specs.declared.statement.StmtKind as S
 use Rattle.kern_syntax.specs.declared.statement.StmtKind.TheFolds.{the_lemmas}
-use Rattle.kern_grammar.specs.SimplePlans.{Line, end_line, simple_plan}
+use Rattle.kern_grammar.specs.SimplePlans.{Line, simple_plan}
 use Rattle.kern_expressions.specs.TakenBy.{GivesTaken, lexemes_left, perform}
 use Rattle.kern_statements.specs.LineSteps.{line_of_statement, on}
-use Rattle.kern_grammar.specs.Plans.{Plan, Taken, peek}
+use Rattle.kern_grammar.specs.Plans.{Plan, peek}
 use Rattle.kern_grammar.specs.Views.{opening}
 use Rattle.kern_statements.proofs.Performed.{first_as, first_kind, front, key_by_expression, others_by_expression, peeked}
 use Rattle.kern_statements.proofs.simple.simple_at.Goals as goal
@@ -17,31 +16,23 @@ use Rattle.kern_statements.proofs.simple.simple_at.Goals as goal
 abbrev line_plan : (line : ℕ) → Plan Line
 line_plan line = peek (λ t. simple_plan (on line) (opening t.symbol))
 
--- the end of a line behind a keyword that is a statement
-ended : (line : ℕ) (tokens rest : List Lexeme) (word read : Line) (first : Lexeme) (whole : Taken Line) → tokens ≡ first ∷ rest → perform (line_plan line) (first ∷ rest) ≡ perform (end_line read) rest → word ≡ read → perform (end_line word) rest ≡ whole → perform (line_plan line) tokens ≡ whole
-ended line tokens rest word read first whole e computed same h =
-    ap (perform (line_plan line)) e ∙ computed ∙ ap (λ s. perform (end_line s) rest) (sym same) ∙ h
-
-pub returns-in_ok-ended_statement-in-Pass : goal.returns-in_ok-ended_statement-in-Pass
-returns-in_ok-ended_statement-in-Pass c =
-    let rest = c.tail.result in
-    let e = front c.args.tokens rest (T.Key K.Pass) c.in-len1-up.len_at_least (c.in-Key.is ∙ ap (λ k. T.Key k) c.in-Pass.is) c.tail.ensures.lexemes in
+pub returns-in-Pass : goal.returns-in-Pass
+returns-in-Pass c =
+    let e = front c.args.tokens c.tail.result (T.Key K.Pass) c.in-len1-up.len_at_least (c.in-Key.is ∙ ap (λ k. T.Key k) c.in-Pass.is) c.tail.ensures.lexemes in
     let same : line_of_statement (record { line = c.args.line; kind = S.Pass }) ≡ on c.args.line pass = search (rules, the_lemmas) in
-    ended c.args.line (lexemes_left c.args.tokens) (lexemes_left rest) _ (on c.args.line pass) (first_as c.args.tokens (T.Key K.Pass)) _ e refl same c.in_ok-ended_statement-in-Pass.ensures
+    subst (GivesTaken line_of_statement c.ended_statement.result) (sym (ap (perform (line_plan c.args.line)) e)) (c.ended_statement.ensures (on c.args.line pass) same)
 
-pub returns-in_ok-ended_statement-in-Break : goal.returns-in_ok-ended_statement-in-Break
-returns-in_ok-ended_statement-in-Break c =
-    let rest = c.tail-in-Break.result in
-    let e = front c.args.tokens rest (T.Key K.Break) c.in-len1-up.len_at_least (c.in-Key.is ∙ ap (λ k. T.Key k) c.in-Break.is) c.tail-in-Break.ensures.lexemes in
+pub returns-in-Break : goal.returns-in-Break
+returns-in-Break c =
+    let e = front c.args.tokens c.tail-in-Break.result (T.Key K.Break) c.in-len1-up.len_at_least (c.in-Key.is ∙ ap (λ k. T.Key k) c.in-Break.is) c.tail-in-Break.ensures.lexemes in
     let same : line_of_statement (record { line = c.args.line; kind = S.Break }) ≡ on c.args.line break = search (rules, the_lemmas) in
-    ended c.args.line (lexemes_left c.args.tokens) (lexemes_left rest) _ (on c.args.line break) (first_as c.args.tokens (T.Key K.Break)) _ e refl same c.in_ok-ended_statement-in-Break.ensures
+    subst (GivesTaken line_of_statement c.ended_statement-in-Break.result) (sym (ap (perform (line_plan c.args.line)) e)) (c.ended_statement-in-Break.ensures (on c.args.line break) same)
 
-pub returns-in_ok-ended_statement-in-Continue : goal.returns-in_ok-ended_statement-in-Continue
-returns-in_ok-ended_statement-in-Continue c =
-    let rest = c.tail-in-Continue.result in
-    let e = front c.args.tokens rest (T.Key K.Continue) c.in-len1-up.len_at_least (c.in-Key.is ∙ ap (λ k. T.Key k) c.in-Continue.is) c.tail-in-Continue.ensures.lexemes in
+pub returns-in-Continue : goal.returns-in-Continue
+returns-in-Continue c =
+    let e = front c.args.tokens c.tail-in-Continue.result (T.Key K.Continue) c.in-len1-up.len_at_least (c.in-Key.is ∙ ap (λ k. T.Key k) c.in-Continue.is) c.tail-in-Continue.ensures.lexemes in
     let same : line_of_statement (record { line = c.args.line; kind = S.Continue }) ≡ on c.args.line continue = search (rules, the_lemmas) in
-    ended c.args.line (lexemes_left c.args.tokens) (lexemes_left rest) _ (on c.args.line continue) (first_as c.args.tokens (T.Key K.Continue)) _ e refl same c.in_ok-ended_statement-in-Continue.ensures
+    subst (GivesTaken line_of_statement c.ended_statement-in-Continue.result) (sym (ap (perform (line_plan c.args.line)) e)) (c.ended_statement-in-Continue.ensures (on c.args.line continue) same)
 
 pub returns-in_default-key : goal.returns-in_default-key
 returns-in_default-key c =

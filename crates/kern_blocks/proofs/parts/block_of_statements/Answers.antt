@@ -1,0 +1,7 @@
+use Rattle.std.proofs.Common.{rules}
+use Rattle.kern_syntax.specs.declared.statement.StmtKind.TheFolds.{the_lemmas}
+use Rattle.kern_blocks.proofs.BlockTrees.{lines-tree}
+use Rattle.kern_blocks.proofs.parts.block_of_statements.Goals as goal
+
+pub returns : goal.returns
+returns c = search (rules, the_lemmas, lines-tree)

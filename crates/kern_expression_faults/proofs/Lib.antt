@@ -1,4 +1,0 @@
-mod Arguments
-mod Formed
-mod Levels
-mod Nested

@@ -1,6 +1,0 @@
-mod BlockSkips
-mod FirstLooks
-mod FunctionSkips
-mod ManySkips
-mod SimpleSkips
-mod Skipping

@@ -1,2 +1,0 @@
-pub mod Skips
-pub mod Without
