@@ -1,5 +1,6 @@
 -- The instructions of operators and calls, once their operands are there.
 use Rattle.std.specs.Prelude.{ℕ, ◌+◌, List, [], ◌∷◌, pos, Bool, true, false, Option, Some, None, is_some}
+use Rattle.limits.specs.Limits.{lead_time}
 use Rattle.kern_syntax.specs.declared.expression.BinaryOperator.{BinaryOperator}
 use Rattle.kern_syntax.specs.declared.expression.BinaryOperator.TheVariants as B
 use Rattle.kern_syntax.specs.declared.expression.Comparison.{Comparison}
@@ -101,7 +102,7 @@ load_instr setting x (Some t) = I.Load (slot_of setting x)
 
 -- the lead that the cursor gets over a reading
 abbrev pub lead : Instr
-lead = I.Const (pos 125000)
+lead = I.Const (pos lead_time)
 
 -- an output of a number at an address
 abbrev pub out_instrs : (channel address number : ℕ) → List Instr

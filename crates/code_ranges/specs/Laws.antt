@@ -1,5 +1,6 @@
 -- The laws: what the code of a checked program fits.
 use Rattle.std.specs.Prelude.{◌≡◌, ℕ, ◌+◌, ◌*◌, ◌≤◌, ◌<◌, ◌^◌, List, length, take, slice_get, Some}
+use Rattle.limits.specs.Limits.{most_nodes}
 use Rattle.kern_syntax.specs.Nodes.{program_nodes}
 use Rattle.kern_syntax.specs.Tree.{Bytes, FunctionTree, ProgramTree}
 use Rattle.kern_calls.specs.Types.{names_of}
@@ -15,7 +16,7 @@ use Rattle.code_ranges.specs.ReadyStatements.{IsReadyBlock}
 -- a program that is checked and not too large, whose code is short and has its functions in order
 pub record IsFit (program : ProgramTree) : Type 0 where
   pub checked : IsChecked program
-  pub nodes : program_nodes program ≤ 16384
+  pub nodes : program_nodes program ≤ most_nodes
   pub short : length (code_of_program program).lines ≤ 16 * program_nodes program
   pub order : HasOrder (code_of_program program)
 

@@ -1,6 +1,7 @@
 -- Where bytes that spell no dump are first wrong.
 use Rattle.std.specs.Prelude.{ℕ, zero, suc, ◌+◌, ◌*◌, Bool, true, ◌&&◌, ◌==◌, nat_lt, List}
 use Rattle.std.specs.Prelude.{[], ◌∷◌, ◌++◌, length, drop, slice_index, Option, Some, None}
+use Rattle.limits.specs.Limits.{channels}
 use Rattle.rtio_types.specs.declared.event.Event.{Event}
 use Rattle.recording_bytes.specs.Reading.{fixed_read}
 use Rattle.recording_bytes.specs.Fields.{Field, field_behind, wrong_among}
@@ -23,7 +24,7 @@ abbrev pub event_fields : ℕ → Option Event → List ℕ → List Field
 event_fields place before bytes =
     let field = field_behind place bytes in
     let event = fixed_read bytes in
-    field 0 1 (nat_lt event.channel 32)
+    field 0 1 (nat_lt event.channel channels)
     ∷ field 1 1 true
     ∷ field 2 4 true
     ∷ field 6 8 (is_next before event)
@@ -42,7 +43,7 @@ line_fields place bytes =
     let byte = slice_index bytes in
     field 0 1 (nat_lt (byte 0) 4)
     ∷ field 1 8 true
-    ∷ field 9 1 (nat_lt (byte 9) 32)
+    ∷ field 9 1 (nat_lt (byte 9) channels)
     ∷ field 10 1 true
     ∷ field 11 4 true
     ∷ field 15 8 true

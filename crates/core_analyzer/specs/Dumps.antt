@@ -3,6 +3,7 @@ use Rattle.std.specs.Prelude.{◌≡◌, ℕ, ◌<◌, ◌^◌, Bool, true, ◌&
 use Rattle.std.specs.Prelude.{length, nat_lt, int_le, pos, Option, Some, None, IsTrue}
 use Rattle.std.specs.Int.{to_le_bytes, w32, w64}
 use Rattle.std.specs.List.{list_all, AllByRecursion}
+use Rattle.limits.specs.Limits.{channels}
 use Rattle.rtio_types.specs.declared.event.Event.{Event}
 use Rattle.rtio_log.specs.declared.LogLine.{LogLine}
 use Rattle.rtio_log.specs.declared.LogKind.{LogKind}
@@ -29,11 +30,11 @@ is_next before event = int_le (pos 0) event.stamp && follows before event
 abbrev pub are_put_out_behind : Option Event → List Event → Bool
 are_put_out_behind before [] = true
 are_put_out_behind before (event ∷ events) =
-    nat_lt event.channel 32 && (is_next before event && are_put_out_behind (Some event) events)
+    nat_lt event.channel channels && (is_next before event && are_put_out_behind (Some event) events)
 
 -- the line is of a channel of the board
 abbrev pub is_of_channel : LogLine → Bool
-is_of_channel line = nat_lt line.event.channel 32
+is_of_channel line = nat_lt line.event.channel channels
 
 -- there are fewer than 2^32 events and fewer than 2^32 lines
 abbrev pub has_few_entries : Dumped → Bool

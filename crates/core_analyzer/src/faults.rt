@@ -7,6 +7,7 @@ ghost use Rattle.recording_bytes.specs.Fields.{wrong_among};
 
 use crate::dump::{COUNT, EVENT, HEADER, LINE, MAGIC};
 use crate::reading::{read_count, read_event};
+use limits::CHANNELS;
 use rtio_types::Event;
 
 /// Where the first wrong field begins: one that is cut off or out of its range, or the end, where bytes follow it.
@@ -69,7 +70,7 @@ fn wrong_in_event(place: u64, before: Option<Event>, bytes: &[u8]) -> Option<u64
     ensures { result ≡ wrong_among (event_fields place before bytes.now) }
 {
     let len = bytes.len();
-    if len < 1 || 32 <= bytes[0] {
+    if len < 1 || CHANNELS <= bytes[0] as usize {
         Some(place)
     } else if len < 2 {
         Some(place + 1)
@@ -134,7 +135,7 @@ fn wrong_in_line(place: u64, bytes: &[u8]) -> Option<u64>
         Some(place)
     } else if len < 9 {
         Some(place + 1)
-    } else if len < 10 || 32 <= bytes[9] {
+    } else if len < 10 || CHANNELS <= bytes[9] as usize {
         Some(place + 9)
     } else if len < 11 {
         Some(place + 10)

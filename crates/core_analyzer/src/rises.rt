@@ -1,11 +1,13 @@
 // Whether a dump has a waveform.
 
 ghost use Rattle.std.specs.Prelude.{◌≡◌, ◌&&◌, IsTrue, nat_lt};
+ghost use Rattle.limits.specs.Limits.{channels};
 ghost use Rattle.core_analyzer.specs.Dumps.{is_dump, is_next};
 ghost use Rattle.core_analyzer.specs.Rising.{are_behind_first_cycle, are_rising, is_behind_first_cycle};
 
 use crate::dump::Dump;
 use crate::faults::is_next;
+use limits::CHANNELS;
 use rtio_types::{Event, MU_PER_CYCLE};
 
 /// Whether the events of a dump rise strictly by stamp (mu) and channel, from a stamp of at least 8 on, and are of channels of
@@ -34,7 +36,9 @@ fn are_rising(events: &[Event]) -> bool
 
 // Whether an event may stand behind another one.
 fn may_follow(before: Option<Event>, event: Event) -> bool
-    ensures { result ≡ (nat_lt event.channel 32 && (is_next before event && is_behind_first_cycle event)) }
+    ensures { result ≡ (nat_lt event.channel channels && (is_next before event && is_behind_first_cycle event)) }
 {
-    event.channel < 32 && is_next(before, event) && MU_PER_CYCLE as i64 <= event.stamp
+    (event.channel as usize) < CHANNELS
+        && is_next(before, event)
+        && MU_PER_CYCLE as i64 <= event.stamp
 }

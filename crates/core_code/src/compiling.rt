@@ -1,6 +1,7 @@
 // The code of a program, and what it promises.
 
 ghost use Rattle.std.specs.Prelude.{◌≡◌, ◌≤◌, IfOk, IfErr, OnOk};
+ghost use Rattle.limits.specs.Limits.{most_nodes};
 ghost use Rattle.kern_syntax.specs.Nodes.{program_nodes};
 ghost use Rattle.kern_syntax.specs.TreeOf.{tree_of};
 ghost use Rattle.code_forms.specs.Programs.{code_of_program};
@@ -17,11 +18,9 @@ use core_isa::{Code, CodeFunctionList, CodeLineList, NameList};
 use kern_names::{Functions, number_functions};
 use kern_syntax::nodes;
 use kern_types::Checked;
+use limits::MOST_NODES;
 use std::alloc::{AllocError, Global};
 use std::marker::Model;
-
-// The most nodes that a program may have.
-const MOST_NODES: u64 = 16_384;
 
 /// A checked program with its code, which does what the program does. Contracts see it as the pair of both.
 #[derive(Drop)]
@@ -81,7 +80,7 @@ pub fn compile(alloc: Global, checked: Checked) -> Result<Compiled, CodeEnd>
     // their requests, asks what the program means, and ends so, at the same cursor and with the same units left.
     ensures does { IfOk result (λ compiled. DoesAs (tree_of checked) compiled.1) }
     // Exactly the programs of more than 16,384 nodes are too large.
-    ensures small { OnOk result (program_nodes (tree_of checked) ≤ 16384) }
+    ensures small { OnOk result (program_nodes (tree_of checked) ≤ most_nodes) }
     ensures end { IfErr result (λ end. IsEndOf end (tree_of checked)) }
 {
     let nodes = nodes(checked.program());

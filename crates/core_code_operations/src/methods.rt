@@ -13,10 +13,8 @@ use core_code_lines::put_all;
 use core_code_names::Setting;
 use core_isa::{CodeLine, Instr, Mark};
 use kern_calls::Operation;
+use limits::LEAD;
 use std::alloc::AllocError;
-
-// How far ahead of the counter the cursor is set over a reading, in mu (the ARTIQ manual's `break_realtime`).
-const LEAD: i64 = 125_000;
 
 /// Whether a call of a method leaves a value.
 pub fn method_has_value(method: Option<Operation>) -> bool
@@ -205,7 +203,7 @@ fn put_break_realtime(lines: &mut Vec<CodeLine>, mark: Mark) -> Result<(), Alloc
         &[
             Instr::Now,
             Instr::Counter,
-            Instr::Const(LEAD),
+            Instr::Const(LEAD as i64),
             Instr::Add,
             Instr::Max,
             Instr::At,
@@ -221,6 +219,11 @@ fn put_reset(lines: &mut Vec<CodeLine>, mark: Mark) -> Result<(), AllocError>
     put_all(
         lines,
         mark,
-        &[Instr::Reset, Instr::Const(LEAD), Instr::Add, Instr::At],
+        &[
+            Instr::Reset,
+            Instr::Const(LEAD as i64),
+            Instr::Add,
+            Instr::At,
+        ],
     )
 }

@@ -93,6 +93,7 @@ impl<'a> Cpu<'a> {
     /// Goes on to the next request or the end, and behind the end tells it again. It takes memory only for an output while a
     /// recording is open and for a list of a dataset; where there is none, it stands before that instruction, which begins
     /// again with the next call.
+    #[inline(always)]
     pub fn advance(&mut self, alloc: Global) -> Result<Stop, AllocError>
         requires { is_asking self.old.phase ≡ false }
         ensures code { self.new.code ≡ self.old.code }
@@ -123,6 +124,7 @@ impl<'a> Cpu<'a> {
     }
 
     /// Takes the reply to the request that waits. A recording is taken over as it is.
+    #[inline(always)]
     pub fn reply(&mut self, reply: Reply)
         requires { IsTrue (is_asking self.old.phase) }
         ensures code { self.new.code ≡ self.old.code }
@@ -223,6 +225,7 @@ impl<'a> Cpu<'a> {
 
     /// Runs the instruction at its place, and gives the request that it asks. The only error is want of memory, and then
     /// nothing has happened.
+    #[inline(always)]
     pub fn step(&mut self, alloc: Global) -> Result<Option<Request>, AllocError>
         requires { IsTrue (is_ready self.old.phase) }
         ensures code { self.new.code ≡ self.old.code }

@@ -9,6 +9,7 @@ use Rattle.core_isa.specs.declared.code.CodeLine.{CodeLine}
 use Rattle.core_isa.specs.declared.code.Mark.{Mark}
 use Rattle.core_isa.specs.declared.instr.Instr.{Instr}
 use Rattle.core_isa.specs.declared.instr.Instr.TheVariants as I
+pub use Rattle.word_arithmetic.specs.Widths.{IsShiftWidth}
 
 -- a function's value as a number of operands
 abbrev pub values_of : CodeFunction → ℕ
@@ -83,9 +84,6 @@ abbrev pub HasName : Code → ℕ → Type 0
 HasName code n = n < length code.names
 
 -- a width at which a shift's amount is taken
-abbrev pub IsShiftWidth : ℕ → Type 0
-IsShiftWidth w = (w ≡ 32) ⊎ (w ≡ 64)
-
 -- the slots, names and channels that an instruction speaks of exist
 abbrev pub OperandsExist : Code → CodeFunction → Instr → Type 0
 OperandsExist code f (I.Load s) = s < f.slots

@@ -1,6 +1,7 @@
 -- The arrivals of a session.
-use Rattle.std.specs.Prelude.{ℕ, ◌-◌, ◌^◌, Bool, true, not, List, [], ◌∷◌, nat_le}
+use Rattle.std.specs.Prelude.{ℕ, ◌-◌, Bool, true, not, List, [], ◌∷◌, nat_le}
 use Rattle.std.specs.Prelude.{length, codes, slice_get, Option, Some, None, count_by}
+use Rattle.limits.specs.Limits.{last_clock, most_runs}
 use Rattle.serde_json.specs.Data.{Data}
 use Rattle.exp_model.specs.declared.arrival.Arrival.{Arrival}
 use Rattle.exp_model.specs.declared.arrival.ArrivalAct.TheVariants as A
@@ -24,9 +25,9 @@ order_key O.Terminate = codes "terminate"
 abbrev pub orders : List Order
 orders = O.Submit ∷ O.Delete ∷ O.Terminate ∷ []
 
--- at most 64 arrivals submit
+-- no more arrivals submit than there may be runs
 abbrev pub may_arrive : List Arrival → Order → Reading (Unit {0})
-may_arrive before O.Submit = demand (not (nat_le 64 (count_by submits before))) K.Range
+may_arrive before O.Submit = demand (not (nat_le most_runs (count_by submits before))) K.Range
 may_arrive before O.Delete = good tt
 may_arrive before O.Terminate = good tt
 
@@ -41,7 +42,7 @@ not_below before clock = not_below_one (slice_get before (length before - 1)) cl
 
 -- the clock of an arrival, behind which the order of arrivals is asked
 abbrev pub clock_field : List Arrival → Field ℕ
-clock_field before = ordered (required (codes "at") (count 0 (2 ^ 62))) (not_below before)
+clock_field before = ordered (required (codes "at") (count 0 last_clock)) (not_below before)
 
 -- an arrival of an order
 abbrev pub order_table : Around → List Arrival → Order → Table Arrival
@@ -50,9 +51,9 @@ order_table around before O.Submit =
     ⊛ clock_field before
     ⊛ required (codes "submit") (submission around)
 order_table around before O.Delete =
-    table_of (λ clock rid. record { «at» = clock; act = A.Delete rid }) ⊛ clock_field before ⊛ required (codes "delete") (count 0 63)
+    table_of (λ clock rid. record { «at» = clock; act = A.Delete rid }) ⊛ clock_field before ⊛ required (codes "delete") (count 0 (most_runs - 1))
 order_table around before O.Terminate =
-    table_of (λ clock rid. record { «at» = clock; act = A.Terminate rid }) ⊛ clock_field before ⊛ required (codes "terminate") (count 0 63)
+    table_of (λ clock rid. record { «at» = clock; act = A.Terminate rid }) ⊛ clock_field before ⊛ required (codes "terminate") (count 0 (most_runs - 1))
 
 -- an arrival behind those before it
 abbrev pub arrival : Around → List Arrival → Data → Reading Arrival

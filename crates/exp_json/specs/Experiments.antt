@@ -1,5 +1,6 @@
 -- Experiments and the texts of their kernels.
 use Rattle.std.specs.Prelude.{ℕ, List, codes}
+use Rattle.limits.specs.Limits.{most_steps}
 use Rattle.serde_json.specs.Data.{Data}
 use Rattle.exp_model.specs.declared.session.Experiment.{Experiment}
 use Rattle.exp_model.specs.declared.step.HostStep.{HostStep}
@@ -25,9 +26,9 @@ abbrev pub experiment_table : Around → Table Experiment
 experiment_table around =
     table_of (λ source prepare run analyze. record { source = source; prepare = prepare; run = run; analyze = analyze })
     ⊛ required (codes "source") (index around.sources)
-    ⊛ required (codes "prepare") (list_of 0 16 (step_in T.Prepare around))
-    ⊛ required (codes "run") (list_of 1 16 (step_in T.Run around))
-    ⊛ required (codes "analyze") (list_of 0 16 (step_in T.Analyze around))
+    ⊛ required (codes "prepare") (list_of 0 most_steps (step_in T.Prepare around))
+    ⊛ required (codes "run") (list_of 1 most_steps (step_in T.Run around))
+    ⊛ required (codes "analyze") (list_of 0 most_steps (step_in T.Analyze around))
 
 abbrev pub experiment : Around → Data → Reading Experiment
 experiment around d = object (experiment_table around) d

@@ -1,6 +1,7 @@
 -- Pipelines and the edges of their inputs.
-use Rattle.std.specs.Prelude.{◌-◌, ◌^◌, pos, Bool, true, ◌||◌, List, [], bytes_eq}
+use Rattle.std.specs.Prelude.{◌-◌, pos, Bool, true, ◌||◌, List, [], bytes_eq}
 use Rattle.std.specs.Prelude.{codes, Option, Some, None, length, slice_get}
+use Rattle.limits.specs.Limits.{first_input, last_channel, last_stamp, most_edges}
 use Rattle.serde_json.specs.Data.{Data}
 use Rattle.rtio_types.specs.declared.event.Edge.{Edge}
 use Rattle.exp_model.specs.declared.session.Pipeline.{Pipeline}
@@ -28,13 +29,13 @@ follows before edge = follows_one (slice_get before (length before - 1)) edge
 abbrev pub edge : List Edge → Data → Reading Edge
 edge before d =
     items_of_list 3 3 d
-    >> (element 0 (count 24 31) d
-    >>= (λ channel. element 1 (count 0 (2 ^ 62 - 1)) d
+    >> (element 0 (count first_input last_channel) d
+    >>= (λ channel. element 1 (count 0 last_stamp) d
     >>= (λ stamp. element 2 slope d
     >>= (λ rising. let new : Edge = record { channel = channel; stamp = pos stamp; rising = rising } in demand (follows before new) K.Order >> good new))))
 
 abbrev pub pipeline_table : Table Pipeline
-pipeline_table = table_of (λ edges. record { edges = edges }) ⊛ optional (codes "edges") [] (listed 0 4096 edge)
+pipeline_table = table_of (λ edges. record { edges = edges }) ⊛ optional (codes "edges") [] (listed 0 most_edges edge)
 
 abbrev pub pipeline : Data → Reading Pipeline
 pipeline d = object pipeline_table d

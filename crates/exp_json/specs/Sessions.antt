@@ -1,5 +1,6 @@
 -- Sessions.
 use Rattle.std.specs.Prelude.{ℕ, List, codes}
+use Rattle.limits.specs.Limits.{default_depth, default_horizon, default_lanes, most_arrivals, most_cost, most_depth, most_experiments, most_lanes, most_pipelines, most_sources, most_workers, step_budget}
 use Rattle.serde_json.specs.Data.{Data}
 use Rattle.exp_model.specs.declared.arrival.Arrival.{Arrival}
 use Rattle.exp_model.specs.declared.session.Experiment.{Experiment}
@@ -20,12 +21,12 @@ use Rattle.exp_json.specs.Pipelines.{pipeline}
 abbrev pub settings_table : Table Settings
 settings_table =
     table_of (λ cost budget workers lanes depth horizon. record { cost = cost; budget = budget; workers = workers; lanes = lanes; depth = depth; horizon = horizon })
-    ⊛ optional (codes "cost") 0 (count 0 1000000)
-    ⊛ optional (codes "budget") 20000 (count 1 20000)
-    ⊛ optional (codes "workers") 1 (count 1 8)
-    ⊛ optional (codes "lanes") 8 (count 1 32)
-    ⊛ optional (codes "depth") 128 (count 1 1024)
-    ⊛ optional (codes "horizon") 134217728 (count 1 134217728)
+    ⊛ optional (codes "cost") 0 (count 0 most_cost)
+    ⊛ optional (codes "budget") step_budget (count 1 step_budget)
+    ⊛ optional (codes "workers") 1 (count 1 most_workers)
+    ⊛ optional (codes "lanes") default_lanes (count 1 most_lanes)
+    ⊛ optional (codes "depth") default_depth (count 1 most_depth)
+    ⊛ optional (codes "horizon") default_horizon (count 1 default_horizon)
 
 -- a session of these numbers and lists
 abbrev pub session_of : Settings → List Pipeline → List (List ℕ) → List Experiment → List Arrival → Session
@@ -47,10 +48,10 @@ session_of s pipelines sources experiments arrivals =
 abbrev pub session_table : Around → Table Session
 session_table around =
     changed session_of settings_table
-    ⊛ required (codes "pipelines") (list_of 1 4 pipeline)
-    ⊛ required (codes "sources") (list_of 1 64 source)
-    ⊛ required (codes "experiments") (list_of 1 64 (experiment around))
-    ⊛ required (codes "arrivals") (listed 0 256 (arrival around))
+    ⊛ required (codes "pipelines") (list_of 1 most_pipelines pipeline)
+    ⊛ required (codes "sources") (list_of 1 most_sources source)
+    ⊛ required (codes "experiments") (list_of 1 most_experiments (experiment around))
+    ⊛ required (codes "arrivals") (listed 0 most_arrivals (arrival around))
 
 -- how long the lists of a session are as given
 abbrev pub around_of : Data → Around

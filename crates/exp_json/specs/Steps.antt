@@ -1,5 +1,6 @@
 -- The steps of experiments, and submissions.
-use Rattle.std.specs.Prelude.{ℕ, ◌^◌, pos, negsuc, Bool, true, false, List, [], ◌∷◌, codes, is_some, if◌then◌else◌}
+use Rattle.std.specs.Prelude.{ℕ, ◌-◌, pos, negsuc, Bool, true, false, List, [], ◌∷◌, codes, is_some, if◌then◌else◌}
+use Rattle.limits.specs.Limits.{last_clock, most_arguments, most_numbers, most_priority}
 use Rattle.serde_json.specs.Data.{Data}
 use Rattle.serde_json.specs.Find.{as_array}
 use Rattle.rtio_types.specs.declared.request.Value.{Value}
@@ -27,8 +28,8 @@ submission_table around =
     table_of (λ experiment pipeline priority due flush. record { experiment = experiment; pipeline = pipeline; priority = priority; due = due; flush = flush })
     ⊛ required (codes "experiment") (index around.experiments)
     ⊛ required (codes "pipeline") (index around.pipelines)
-    ⊛ optional (codes "priority") (pos 0) (number (negsuc 999) (pos 1000))
-    ⊛ optional (codes "due") 0 (count 0 (2 ^ 62))
+    ⊛ optional (codes "priority") (pos 0) (number (negsuc (most_priority - 1)) (pos most_priority))
+    ⊛ optional (codes "due") 0 (count 0 last_clock)
     ⊛ optional (codes "flush") false truth
 
 abbrev pub submission : Around → Data → Reading Submission
@@ -46,7 +47,7 @@ identifier d = word is_identifier d
 abbrev pub dataset_value : Data → Reading Value
 dataset_value d =
     if is_some (as_array d)
-    then list_of 0 512 any_number d >>= (λ numbers. good (V.List numbers))
+    then list_of 0 most_numbers any_number d >>= (λ numbers. good (V.List numbers))
     else any_number d >>= (λ n. good (V.Int n))
 
 -- the key that chooses a form
@@ -84,7 +85,7 @@ abbrev pub step_table : Around → StepForm → Table HostStep
 step_table around F.Kernel =
     table_of (λ function args. H.Kernel function args)
     ⊛ required (codes "kernel") identifier
-    ⊛ required (codes "args") (list_of 0 8 any_number)
+    ⊛ required (codes "args") (list_of 0 most_arguments any_number)
 step_table around F.Pause = table_of (λ given. H.Pause) ⊛ required (codes "pause") yes
 step_table around F.CheckTermination = table_of (λ given. H.CheckTermination) ⊛ required (codes "check_termination") yes
 step_table around F.Set =

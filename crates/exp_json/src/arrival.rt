@@ -2,6 +2,7 @@
 
 ghost use Rattle.std.specs.Prelude.{◌≡◌, List};
 ghost use Rattle.std.specs.List.{count_by};
+ghost use Rattle.limits.specs.Limits.{most_arrivals};
 ghost use Rattle.serde_json.specs.View.{view};
 ghost use Rattle.exp_model.specs.declared.arrival.Arrival.{Arrival};
 ghost use Rattle.exp_model.specs.Sessions.{submits};
@@ -18,11 +19,9 @@ use exp_model::{Arrival, ArrivalAct, ArrivalList};
 use json_fields::{
     FieldKind, Stop, an_object, count, demand, fault_here, is_there, needed, only_known, within_key,
 };
+use limits::{LAST_CLOCK, MOST_ARRIVALS, MOST_RUNS};
 use serde_json::Value;
 use std::alloc::Global;
-
-// The most arrivals that submit.
-const MOST_SUBMISSIONS: usize = 64;
 
 /// What arrives.
 #[derive(Clone, Copy, Debug, PartialEq, Eq)]
@@ -69,13 +68,13 @@ fn submissions(before: &[Arrival]) -> usize
     many
 }
 
-// At most 64 arrivals submit.
+// No more arrivals submit than there may be runs.
 fn may_arrive(alloc: Global, before: &[Arrival], order: Order) -> Result<(), Stop>
     ensures { Gives result (may_arrive before.now order) }
 {
     match order {
         Order::Submit => {
-            let has_room = submissions(before) < MOST_SUBMISSIONS;
+            let has_room = (submissions(before) as u64) < MOST_RUNS;
             demand(alloc, has_room, FieldKind::Range)
         }
         Order::Delete | Order::Terminate => Ok(()),
@@ -108,7 +107,7 @@ fn clock(alloc: Global, before: &[Arrival], value: &Value) -> Result<u64, Stop>
     ensures { Gives result ((clock_field before.now).reading (view value.now)) }
 {
     let given = needed(alloc, value, "at")?;
-    let clock = within_key(alloc, "at", count(alloc, given, 0, 1 << 62))?;
+    let clock = within_key(alloc, "at", count(alloc, given, 0, LAST_CLOCK))?;
     demand(alloc, not_below(before, clock), FieldKind::Order)?;
     Ok(clock)
 }
@@ -132,12 +131,12 @@ fn fields_of(
         }
         Order::Delete => {
             let given = needed(alloc, value, "delete")?;
-            let rid = within_key(alloc, "delete", count(alloc, given, 0, 63))?;
+            let rid = within_key(alloc, "delete", count(alloc, given, 0, MOST_RUNS - 1))?;
             ArrivalAct::Delete { rid }
         }
         Order::Terminate => {
             let given = needed(alloc, value, "terminate")?;
-            let rid = within_key(alloc, "terminate", count(alloc, given, 0, 63))?;
+            let rid = within_key(alloc, "terminate", count(alloc, given, 0, MOST_RUNS - 1))?;
             ArrivalAct::Terminate { rid }
         }
     };
@@ -179,7 +178,7 @@ impl ReadItem for Arrival {
 
 /// The arrivals of a session.
 pub fn arrivals(alloc: Global, around: &Around, value: &Value) -> Result<ArrivalList, Stop>
-    ensures { Gives result (listed 0 256 (arrival around.now) (view value.now)) }
+    ensures { Gives result (listed 0 most_arrivals (arrival around.now) (view value.now)) }
 {
-    Ok(ArrivalList::of(listed(alloc, around, value, 0, 256)?))
+    Ok(ArrivalList::of(listed(alloc, around, value, 0, MOST_ARRIVALS)?))
 }

@@ -1,5 +1,6 @@
 // Experiments and the texts of their kernels.
 
+ghost use Rattle.limits.specs.Limits.{most_experiments, most_sources, most_steps};
 ghost use Rattle.serde_json.specs.View.{view};
 ghost use Rattle.json_fields.specs.Answers.{Gives};
 ghost use Rattle.json_fields.specs.Lists.{list_of};
@@ -10,6 +11,7 @@ use crate::list::{ReadItem, listed};
 use crate::words::source;
 use exp_model::{Experiment, ExperimentList, HostText, StepList, TextList};
 use json_fields::{Stop, an_object, index, needed, only_known, within_key};
+use limits::{MOST_EXPERIMENTS, MOST_SOURCES, MOST_STEPS};
 use serde_json::Value;
 use std::alloc::Global;
 
@@ -30,9 +32,9 @@ impl ReadItem for HostText {
 
 /// The texts of a session.
 pub fn sources(alloc: Global, around: &Around, value: &Value) -> Result<TextList, Stop>
-    ensures { Gives result (list_of 1 64 source (view value.now)) }
+    ensures { Gives result (list_of 1 most_sources source (view value.now)) }
 {
-    Ok(TextList::of(listed(alloc, around, value, 1, 64)?))
+    Ok(TextList::of(listed(alloc, around, value, 1, MOST_SOURCES)?))
 }
 
 // The steps of a stage.
@@ -43,10 +45,10 @@ fn steps(
     low: usize,
     value: &Value,
 ) -> Result<StepList, Stop>
-    ensures { Gives result (list_of low 16 (step_in stage around.now) (view value.now)) }
+    ensures { Gives result (list_of low most_steps (step_in stage around.now) (view value.now)) }
 {
     let around = Around { stage, ..*around };
-    Ok(StepList::of(listed(alloc, &around, value, low, 16)?))
+    Ok(StepList::of(listed(alloc, &around, value, low, MOST_STEPS)?))
 }
 
 /// An experiment.
@@ -96,7 +98,7 @@ impl ReadItem for Experiment {
 
 /// The experiments of a session.
 pub fn experiments(alloc: Global, around: &Around, value: &Value) -> Result<ExperimentList, Stop>
-    ensures { Gives result (list_of 1 64 (experiment around.now) (view value.now)) }
+    ensures { Gives result (list_of 1 most_experiments (experiment around.now) (view value.now)) }
 {
-    Ok(ExperimentList::of(listed(alloc, around, value, 1, 64)?))
+    Ok(ExperimentList::of(listed(alloc, around, value, 1, MOST_EXPERIMENTS)?))
 }

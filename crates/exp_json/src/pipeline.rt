@@ -1,6 +1,7 @@
 // Pipelines and the edges of their inputs.
 
 ghost use Rattle.std.specs.Prelude.{◌≡◌};
+ghost use Rattle.limits.specs.Limits.{most_edges, most_pipelines};
 ghost use Rattle.serde_json.specs.View.{view};
 ghost use Rattle.exp_model.specs.Edges.{is_edge_before};
 ghost use Rattle.json_fields.specs.Answers.{Gives};
@@ -14,6 +15,7 @@ use json_fields::{
     FieldKind, Stop, an_object, count, demand, item_needed, items_of_list, only_known, text,
     within_key, within_place,
 };
+use limits::{FIRST_INPUT, LAST_CHANNEL, LAST_STAMP, MOST_EDGES, MOST_PIPELINES};
 use rtio_types::{Edge, EdgeList};
 use serde_json::Value;
 use std::alloc::Global;
@@ -60,9 +62,9 @@ fn edge(alloc: Global, before: &[Edge], value: &Value) -> Result<Edge, Stop>
 {
     items_of_list(alloc, value, 3, 3)?;
     let given = item_needed(alloc, value, 0)?;
-    let channel = within_place(0, count(alloc, given, 24, 31))?;
+    let channel = within_place(0, count(alloc, given, FIRST_INPUT, LAST_CHANNEL))?;
     let given = item_needed(alloc, value, 1)?;
-    let stamp = within_place(1, count(alloc, given, 0, (1 << 62) - 1))?;
+    let stamp = within_place(1, count(alloc, given, 0, LAST_STAMP))?;
     let given = item_needed(alloc, value, 2)?;
     let rising = within_place(2, slope(alloc, given))?;
     let new = Edge {
@@ -76,9 +78,9 @@ fn edge(alloc: Global, before: &[Edge], value: &Value) -> Result<Edge, Stop>
 
 // The edges of a pipeline.
 fn edges(alloc: Global, around: &Around, value: &Value) -> Result<EdgeList, Stop>
-    ensures { Gives result (listed 0 4096 edge (view value.now)) }
+    ensures { Gives result (listed 0 most_edges edge (view value.now)) }
 {
-    Ok(EdgeList::of(listed(alloc, around, value, 0, 4096)?))
+    Ok(EdgeList::of(listed(alloc, around, value, 0, MOST_EDGES)?))
 }
 
 /// A pipeline.
@@ -111,7 +113,7 @@ impl ReadItem for Pipeline {
 
 /// The pipelines of a session.
 pub fn pipelines(alloc: Global, around: &Around, value: &Value) -> Result<PipelineList, Stop>
-    ensures { Gives result (list_of 1 4 pipeline (view value.now)) }
+    ensures { Gives result (list_of 1 most_pipelines pipeline (view value.now)) }
 {
-    Ok(PipelineList::of(listed(alloc, around, value, 1, 4)?))
+    Ok(PipelineList::of(listed(alloc, around, value, 1, MOST_PIPELINES)?))
 }

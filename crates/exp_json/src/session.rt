@@ -17,6 +17,10 @@ use exp_model::{PathText, Session};
 use json_fields::{
     FieldKind, Path, Stop, an_object, count_or, many, needed, only_known, path_text, within_key,
 };
+use limits::{
+    DEFAULT_DEPTH, DEFAULT_HORIZON, DEFAULT_LANES, MOST_COST, MOST_DEPTH, MOST_LANES, MOST_WORKERS,
+    STEP_BUDGET,
+};
 use serde_json::Value;
 use std::alloc::Global;
 
@@ -104,12 +108,12 @@ struct Settings {
 fn numbers(alloc: Global, value: &Value) -> Result<Settings, Stop>
     ensures { Gives result (settings_table.fields (view value.now)) }
 {
-    let cost = count_or(alloc, value, "cost", 0, 0, 1_000_000)?;
-    let budget = count_or(alloc, value, "budget", 20_000, 1, 20_000)?;
-    let workers = count_or(alloc, value, "workers", 1, 1, 8)?;
-    let lanes = count_or(alloc, value, "lanes", 8, 1, 32)?;
-    let depth = count_or(alloc, value, "depth", 128, 1, 1024)?;
-    let horizon = count_or(alloc, value, "horizon", 134_217_728, 1, 134_217_728)?;
+    let cost = count_or(alloc, value, "cost", 0, 0, MOST_COST)?;
+    let budget = count_or(alloc, value, "budget", STEP_BUDGET, 1, STEP_BUDGET)?;
+    let workers = count_or(alloc, value, "workers", 1, 1, MOST_WORKERS)?;
+    let lanes = count_or(alloc, value, "lanes", DEFAULT_LANES, 1, MOST_LANES)?;
+    let depth = count_or(alloc, value, "depth", DEFAULT_DEPTH, 1, MOST_DEPTH)?;
+    let horizon = count_or(alloc, value, "horizon", DEFAULT_HORIZON, 1, DEFAULT_HORIZON)?;
     Ok(Settings {
         cost,
         budget: budget as u32,

@@ -17,6 +17,7 @@ use json_fields::{
     FieldKind, Part, Path, Stop, an_object, any_number, fault_here, is_there, needed, only_known,
     truth_or, within_key, yes,
 };
+use limits::{MOST_ARGUMENTS, MOST_NUMBERS};
 use rtio_types::Value as Dataset;
 use serde_json::Value;
 use std::alloc::Global;
@@ -126,7 +127,7 @@ fn dataset(alloc: Global, around: &Around, value: &Value) -> Result<Dataset, Sto
     ensures { Gives result (dataset_value (view value.now)) }
 {
     if value.is_array() {
-        Ok(Dataset::List(numbers(alloc, around, value, 512)?))
+        Ok(Dataset::List(numbers(alloc, around, value, MOST_NUMBERS)?))
     } else {
         Ok(Dataset::Int(any_number(alloc, value)?))
     }
@@ -138,7 +139,7 @@ fn kernel(alloc: Global, around: &Around, value: &Value) -> Result<HostStep, Sto
     let given = needed(alloc, value, "kernel")?;
     let name = within_key(alloc, "kernel", identifier(alloc, given))?;
     let given = needed(alloc, value, "args")?;
-    let args = within_key(alloc, "args", numbers(alloc, around, given, 8))?;
+    let args = within_key(alloc, "args", numbers(alloc, around, given, MOST_ARGUMENTS))?;
     Ok(HostStep::Kernel { name, args })
 }
 

@@ -9,6 +9,7 @@ use exp_model::Submission;
 use json_fields::{
     Stop, an_object, count_or, index, needed, number_or, only_known, truth_or, within_key,
 };
+use limits::{LAST_CLOCK, MOST_PRIORITY};
 use serde_json::Value;
 use std::alloc::Global;
 
@@ -26,8 +27,8 @@ pub fn submission(alloc: Global, around: &Around, value: &Value) -> Result<Submi
     let experiment = within_key(alloc, "experiment", index(alloc, given, around.experiments))?;
     let given = needed(alloc, value, "pipeline")?;
     let pipeline = within_key(alloc, "pipeline", index(alloc, given, around.pipelines))?;
-    let priority = number_or(alloc, value, "priority", 0, -1000, 1000)?;
-    let due = count_or(alloc, value, "due", 0, 0, 1 << 62)?;
+    let priority = number_or(alloc, value, "priority", 0, -MOST_PRIORITY, MOST_PRIORITY)?;
+    let due = count_or(alloc, value, "due", 0, 0, LAST_CLOCK)?;
     let flush = truth_or(alloc, value, "flush", false)?;
     Ok(Submission {
         experiment,

@@ -11,15 +11,10 @@ ghost use Rattle.exp_json.specs.Steps.{identifier, name};
 
 use exp_model::HostText;
 use json_fields::{FieldKind, Stop, demand, fault_here, text};
+use limits::{LONGEST_NAME, MOST_TEXT};
 use rtio_types::Name;
 use serde_json::Value;
 use std::alloc::Global;
-
-// The longest text of kernels, in bytes.
-const LONGEST_TEXT: usize = 1_048_576;
-
-// The longest name of a function, in bytes.
-const LONGEST_NAME: usize = 64;
 
 /// The name of a dataset.
 pub fn name(alloc: Global, value: &Value) -> Result<Name, Stop>
@@ -46,7 +41,7 @@ pub fn source(alloc: Global, value: &Value) -> Result<HostText, Stop>
     ensures { Gives result (source (view value.now)) }
 {
     let given = text(alloc, value)?;
-    demand(alloc, given.len() <= LONGEST_TEXT, FieldKind::Range)?;
+    demand(alloc, given.len() as u64 <= MOST_TEXT, FieldKind::Range)?;
     Ok(HostText::of(Vec::from_slice(alloc, given.as_bytes())?))
 }
 

@@ -1,7 +1,8 @@
 -- What a session that is served keeps to: the ranges of its fields, and the rules on indexes, order, stages and
 -- submissions.
-use Rattle.std.specs.Prelude.{ℕ, ◌^◌, Bool, true, false, ◌&&◌, List, [], ◌∷◌, length, nat_le, nat_lt, count_by}
+use Rattle.std.specs.Prelude.{ℕ, ◌-◌, Bool, true, false, ◌&&◌, List, [], ◌∷◌, length, nat_le, nat_lt, count_by}
 use Rattle.std.specs.List.{list_all}
+use Rattle.limits.specs.Limits.{default_horizon, last_clock, most_arrivals, most_cost, most_depth, most_experiments, most_lanes, most_pipelines, most_runs, most_sources, most_steps, most_text, most_workers, step_budget}
 use Rattle.exp_model.specs.declared.arrival.Arrival.{Arrival}
 use Rattle.exp_model.specs.declared.arrival.ArrivalAct.{ArrivalAct}
 use Rattle.exp_model.specs.declared.arrival.ArrivalAct.TheVariants as A
@@ -20,24 +21,24 @@ is_pipeline pipeline = are_edges pipeline.edges
 
 -- a text of kernels
 abbrev pub is_source : List ℕ → Bool
-is_source text = nat_le (length text) 1048576
+is_source text = nat_le (length text) most_text
 
 -- an experiment: its text is there, and the steps of its stages stand where they may
 abbrev pub is_experiment : Sizes → Experiment → Bool
 is_experiment sizes e =
     nat_lt e.source sizes.sources
-    && (nat_le (length e.prepare) 16 && list_all is_data_step e.prepare)
-    && (is_from_to 1 16 (length e.run) && list_all (is_run_step sizes) e.run)
-    && (nat_le (length e.analyze) 16 && list_all is_data_step e.analyze)
+    && (nat_le (length e.prepare) most_steps && list_all is_data_step e.prepare)
+    && (is_from_to 1 most_steps (length e.run) && list_all (is_run_step sizes) e.run)
+    && (nat_le (length e.analyze) most_steps && list_all is_data_step e.analyze)
 
--- what arrives: a submission, or the number of a run from 0 to 63
+-- what arrives: a submission, or the number of a run
 abbrev pub is_act : Sizes → ArrivalAct → Bool
 is_act sizes (A.Submit s) = is_submission sizes s
-is_act sizes (A.Delete rid) = nat_le rid 63
-is_act sizes (A.Terminate rid) = nat_le rid 63
+is_act sizes (A.Delete rid) = nat_le rid (most_runs - 1)
+is_act sizes (A.Terminate rid) = nat_le rid (most_runs - 1)
 
 abbrev pub is_arrival : Sizes → Arrival → Bool
-is_arrival sizes arrival = nat_le arrival.at (2 ^ 62) && is_act sizes arrival.act
+is_arrival sizes arrival = nat_le arrival.at last_clock && is_act sizes arrival.act
 
 -- the arrival submits an experiment
 abbrev pub submits : Arrival → Bool
@@ -54,13 +55,13 @@ are_in_order [] = true
 are_in_order (a ∷ []) = true
 are_in_order (a ∷ b ∷ rest) = nat_le a.at b.at && are_in_order (b ∷ rest)
 
--- arrivals whose clocks don't fall, at most 64 of which submit
+-- arrivals whose clocks don't fall, of which no more submit than there may be runs
 abbrev pub are_arrivals : Sizes → List Arrival → Bool
 are_arrivals sizes arrivals =
-    nat_le (length arrivals) 256
+    nat_le (length arrivals) most_arrivals
     && list_all (is_arrival sizes) arrivals
     && are_in_order arrivals
-    && nat_le (count_by submits arrivals) 64
+    && nat_le (count_by submits arrivals) most_runs
 
 -- how long the lists of a session are
 abbrev pub sizes_of : Session → Sizes
@@ -73,18 +74,18 @@ sizes_of s = record {
 -- the numbers of a session are in their ranges
 abbrev pub are_settings : Session → Bool
 are_settings s =
-    nat_le s.cost 1000000
-    && is_from_to 1 20000 s.budget
-    && is_from_to 1 8 s.workers
-    && is_from_to 1 32 s.lanes
-    && is_from_to 1 1024 s.depth
-    && is_from_to 1 134217728 s.horizon
+    nat_le s.cost most_cost
+    && is_from_to 1 step_budget s.budget
+    && is_from_to 1 most_workers s.workers
+    && is_from_to 1 most_lanes s.lanes
+    && is_from_to 1 most_depth s.depth
+    && is_from_to 1 default_horizon s.horizon
 
 -- a session that can be served
 abbrev pub is_session : Session → Bool
 is_session s =
     are_settings s
-    && (is_from_to 1 4 (length s.pipelines) && list_all is_pipeline s.pipelines)
-    && (is_from_to 1 64 (length s.sources) && list_all is_source s.sources)
-    && (is_from_to 1 64 (length s.experiments) && list_all (is_experiment (sizes_of s)) s.experiments)
+    && (is_from_to 1 most_pipelines (length s.pipelines) && list_all is_pipeline s.pipelines)
+    && (is_from_to 1 most_sources (length s.sources) && list_all is_source s.sources)
+    && (is_from_to 1 most_experiments (length s.experiments) && list_all (is_experiment (sizes_of s)) s.experiments)
     && are_arrivals (sizes_of s) s.arrivals

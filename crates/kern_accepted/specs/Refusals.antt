@@ -1,5 +1,6 @@
 -- Why a text is refused.
 use Rattle.std.specs.Prelude.{◌≡◌, ℕ, ◌<◌, List, slice_get, Some}
+use Rattle.limits.specs.Limits.{most_nodes}
 use Rattle.kern_lexer.specs.Answers.{HasFault, HasTokens}
 use Rattle.kern_lexer.specs.Symbols.{lexemes_of}
 use Rattle.kern_lexer.specs.declared.token.Token.{Token}
@@ -13,7 +14,7 @@ use Rattle.kern_accepted.specs.declared.end.KernelEnd.{KernelEnd}
 use Rattle.kern_accepted.specs.declared.end.KernelEnd.TheVariants as E
 use Rattle.kern_accepted.specs.declared.end.Refusal.{Refusal}
 use Rattle.kern_accepted.specs.declared.end.Refusal.TheVariants as R
-use Rattle.kern_accepted.specs.Texts.{IsTextOf, most_nodes}
+use Rattle.kern_accepted.specs.Texts.{IsTextOf}
 
 -- the text has tokens without a tree: the first wrong one has this number, and begins at this byte
 pub record HasNoTree (text : Bytes) (place at : ℕ) : Type 0 where

@@ -1,5 +1,6 @@
 -- The texts of kernels, and their programs.
-use Rattle.std.specs.Prelude.{ℕ, ◌≤◌, List}
+use Rattle.std.specs.Prelude.{◌≤◌, List}
+use Rattle.limits.specs.Limits.{most_nodes}
 use Rattle.kern_lexer.specs.Answers.{HasTokens}
 use Rattle.kern_lexer.specs.Symbols.{lexemes_of}
 use Rattle.kern_lexer.specs.declared.token.Token.{Token}
@@ -13,10 +14,6 @@ pub record IsTextOf (text : Bytes) (program : ProgramTree) : Type 0 where
   pub tokens : List Token
   pub lexed : HasTokens text tokens
   pub parsed : HasTree (lexemes_of text tokens) program
-
--- the most nodes of a program
-abbrev pub most_nodes : ℕ
-most_nodes = 16384
 
 -- a program is typed and has no more nodes than it may
 pub record IsKernel (program : ProgramTree) : Type 0 where

@@ -13,10 +13,8 @@ use kern_lexer::{LexEnd, lex};
 use kern_parser::{SyntaxEnd, parse};
 use kern_syntax::nodes;
 use kern_types::{Checked, check};
+use limits::MOST_NODES;
 use std::alloc::Global;
-
-// The most nodes that a program may have.
-const MOST_NODES: u64 = 16_384;
 
 /// The accepted kernel that a text is. Any other text is refused: for its tokens, its tree, its types or its number of nodes,
 /// in this order. Else it ends early only for want of memory.

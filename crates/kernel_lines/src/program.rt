@@ -1,6 +1,7 @@
 // The lines of a whole program.
 
 ghost use Rattle.std.specs.Prelude.{◌≡◌, ◌≤◌, ◌++◌, All, Contains, IfOk, OnOk};
+ghost use Rattle.limits.specs.Limits.{most_nodes};
 ghost use Rattle.kern_syntax.specs.Nodes.{program_nodes};
 ghost use Rattle.kern_syntax.specs.TreeOf.{function_of, tree_of};
 ghost use Rattle.code_law.specs.Laws.{IsFit};
@@ -20,7 +21,7 @@ use std::alloc::{AllocError, Global};
 /// from 1; 0 is the line of what compares an exception on its way with the name of a handler or raises it again. The program
 /// has at most 16,384 nodes, as each one that has code. It ends early only for want of memory.
 pub fn program_lines(alloc: Global, checked: &Checked) -> Result<Vec<u32>, AllocError>
-    requires { program_nodes (tree_of checked.now) ≤ 16384 }
+    requires { program_nodes (tree_of checked.now) ≤ most_nodes }
     ensures { IfOk result (λ lines. lines.items ≡ program_lines (tree_of checked.now)) }
 {
     checked_programs_are_fit();

@@ -1,5 +1,6 @@
 -- The settings of the cores of a laboratory.
 use Rattle.std.specs.Prelude.{ℕ, List, [], map, replicate, slice_get, Option, option_map}
+use Rattle.limits.specs.Limits.{channels}
 use Rattle.rtio_core.specs.declared.data.Config.{Config}
 use Rattle.rtio_core.specs.Core.{CoreState, new_core}
 use Rattle.exp_model.specs.declared.session.Session.{Session}
@@ -14,7 +15,7 @@ config_of session pipeline = record {
   cost = session.cost;
   horizon = session.horizon;
   edges = pipeline.edges;
-  holds = replicate 32 0;
+  holds = replicate channels 0;
   kept = [];
 }
 

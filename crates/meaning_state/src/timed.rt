@@ -2,11 +2,9 @@
 
 use crate::early::{Early, Reason};
 use crate::state::State;
+use limits::LEAD;
 use meaning_numbers::{low_word, moved_on};
 use rtio_types::{Event, Reply, Request};
-
-// The lead that the cursor gets over a reading of the counter, in mu.
-const LEAD: i64 = 125_000;
 
 impl<'a> State<'a> {
     ghost use Rattle.std.specs.Prelude.{◌≡◌};
@@ -115,7 +113,7 @@ impl<'a> State<'a> {
         ensures { Does result self.new (move_to_real_time self.old) }
     {
         let reading = self.inquire(Request::Counter)?;
-        let cursor = self.cursor().max(moved_on(reading, LEAD));
+        let cursor = self.cursor().max(moved_on(reading, LEAD as i64));
         self.set_cursor(cursor);
         Ok(())
     }
@@ -125,7 +123,7 @@ impl<'a> State<'a> {
         ensures { Does result self.new (reset_core self.old) }
     {
         let reading = self.inquire(Request::Reset)?;
-        self.set_cursor(moved_on(reading, LEAD));
+        self.set_cursor(moved_on(reading, LEAD as i64));
         Ok(())
     }
 }

@@ -2,6 +2,7 @@
 use Rattle.std.specs.Prelude.{◌≡◌, ℕ, ◌+◌, Bool, not, ◌==◌, List, [], ◌∷◌, ◌++◌}
 use Rattle.std.specs.Prelude.{filter, if◌then◌else◌, get_or, map, max, nat_lt, set}
 use Rattle.std.specs.List.{list_all, range_with_len}
+use Rattle.limits.specs.Limits.{channels}
 use Rattle.rtio_types.specs.declared.event.Event.{Event}
 use Rattle.rtio_types.specs.Time.{cycle_of}
 use Rattle.sed_lanes.specs.Heads.{HeadsState}
@@ -22,10 +23,10 @@ free_from holds channel (q ∷ out) =
     then max (cycle_of q.1 + hold_of holds channel) (free_from holds channel out)
     else free_from holds channel out
 
--- the 32 channels behind the events that were put out
+-- the channels behind the events that were put out
 abbrev pub holds_after : List ℕ → List (ℕ × Event) → HoldsState
 holds_after holds out =
-    record { holds = holds; free_from = map (λ channel. free_from holds channel out) (range_with_len 0 32) }
+    record { holds = holds; free_from = map (λ channel. free_from holds channel out) (range_with_len 0 channels) }
 
 -- all were put out before this cycle
 abbrev pub are_before : ℕ → List (ℕ × Event) → Bool

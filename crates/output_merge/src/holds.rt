@@ -8,11 +8,10 @@ ghost use Rattle.output_merge.specs.Merge.{are_of_cycle};
 ghost use Rattle.output_merge.specs.Sieve.{IsSieved, are_before, held_by, holds_after, is_held};
 
 use crate::place::{Order, insert};
+use limits::CHANNELS;
 use rtio_types::{Event, cycle_of};
 use sed_lanes::Heads;
 use std::marker::Model;
-
-const CHANNELS: usize = 32;
 
 /// How long each channel executes an event, and since when: what decides which events find it busy. The ARTIQ manual calls
 /// that error busy; the holds are this project's own.
@@ -62,7 +61,7 @@ fn is_held(free_from: &[u64; CHANNELS], cycle: u64, event: &Event) -> bool
 
 impl Holds {
     /// The holds of the channels, in cycles, none of which has executed an event.
-    pub fn new(holds: &[u32; 32]) -> Holds
+    pub fn new(holds: &[u32; CHANNELS]) -> Holds
         ensures { result ≡ holds_after holds.now [] }
     {
         Holds {

@@ -1,6 +1,7 @@
 -- Where bytes that spell no recording are first wrong.
 use Rattle.std.specs.Prelude.{ℕ, zero, suc, ◌+◌, Bool, true, not, ◌&&◌, ◌||◌, ◌==◌, nat_le, nat_lt}
 use Rattle.std.specs.Prelude.{List, [], ◌∷◌, ◌++◌, length, find, drop, slice_index, Option, option_map}
+use Rattle.limits.specs.Limits.{channels}
 use Rattle.rtio_types.specs.Board.{kind_of_channel, has_address}
 use Rattle.recording_bytes.specs.declared.format.Format.{Format}
 use Rattle.recording_bytes.specs.declared.format.Format.TheVariants.{Fixed, Short}
@@ -35,7 +36,7 @@ abbrev pub fixed_fields : ℕ → List ℕ → List Field
 fixed_fields place bytes =
     let field = field_behind place bytes in
     let byte = slice_index bytes in
-    field 0 1 (nat_lt (byte 0) 32)
+    field 0 1 (nat_lt (byte 0) channels)
     ∷ field 1 1 (has_address (kind_of_channel (byte 0)) (byte 1))
     ∷ field 2 4 true
     ∷ field 6 8 true
@@ -50,7 +51,7 @@ abbrev pub front_fields : ℕ → List ℕ → List Field
 front_fields place bytes =
     let field = field_behind place bytes in
     let byte = slice_index bytes in
-    field 0 1 (nat_lt (byte 0) 32)
+    field 0 1 (nat_lt (byte 0) channels)
     ∷ field 1 1 (has_address (kind_of_channel (byte 0)) (byte 1))
     ∷ field 2 1 (are_widths bytes)
     ∷ []

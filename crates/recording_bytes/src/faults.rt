@@ -8,6 +8,7 @@ use crate::format::{
 };
 use crate::numbers::is_short;
 use crate::reading::{read_count, read_format};
+use limits::CHANNELS;
 use rtio_types::has_address;
 
 /// Where the first wrong field begins: one that is cut off or out of its range, or the end, where bytes follow it.
@@ -72,7 +73,7 @@ fn wrong_in_fixed(at: u64, bytes: &[u8]) -> Option<u64>
     ensures { result ≡ wrong_among (fixed_fields at bytes.now) }
 {
     let len = bytes.len();
-    if len < 1 || 32 <= bytes[0] {
+    if len < 1 || CHANNELS <= bytes[0] as usize {
         Some(at)
     } else if len < 2 || !has_address(bytes[0], bytes[1]) {
         Some(at + 1)
@@ -102,7 +103,7 @@ fn wrong_in_front(at: u64, bytes: &[u8]) -> Option<u64>
     ensures { result ≡ wrong_among (front_fields at bytes.now) }
 {
     let len = bytes.len();
-    if len < 1 || 32 <= bytes[0] {
+    if len < 1 || CHANNELS <= bytes[0] as usize {
         Some(at)
     } else if len < 2 || !has_address(bytes[0], bytes[1]) {
         Some(at + 1)

@@ -2,6 +2,7 @@
 use Rattle.std.specs.Prelude.{ℕ, ◌+◌, Bool, ◌&&◌, List, filter_map, fold, max, nat_le}
 use Rattle.std.specs.Prelude.{bytes_eq, if◌then◌else◌, ℤ, pos, Option, Some, None}
 use Rattle.std.specs.List.{list_all}
+use Rattle.limits.specs.Limits.{lockstep_horizon, most_cost, most_depth, most_hold, most_lanes}
 use Rattle.rtio_types.specs.declared.request.Reply.{Reply}
 use Rattle.rtio_types.specs.declared.request.Reply.TheVariants as answer
 use Rattle.rtio_types.specs.declared.request.Request.{Request}
@@ -18,18 +19,17 @@ use Rattle.rtio_core.specs.declared.data.Act.{Act}
 use Rattle.rtio_core.specs.declared.data.Act.TheVariants.{Start, Asked, End}
 use Rattle.rtio_core.specs.declared.data.Entry.{Entry}
 
--- each hold is in its range: up to 1,000,000 cycles
+-- each hold is in its range
 abbrev pub are_holds_ok : List ℕ → Bool
-are_holds_ok holds = list_all (λ hold. nat_le hold 1000000) holds
+are_holds_ok holds = list_all (λ hold. nat_le hold most_hold) holds
 
--- the numbers of the settings are in their ranges: 1 to 32 lanes of 1 to 1,024 events, a cost of up to 1,000,000 mu,
--- and a horizon of 1 to 576,460,752,303,423,488 cycles; the edges can be a script, and the recordings can be kept
+-- the numbers of the settings are in their ranges, the edges can be a script, and the recordings can be kept
 abbrev pub is_config_ok : Config → Bool
 is_config_ok config =
-    nat_le 1 config.lanes && nat_le config.lanes 32
-    && nat_le 1 config.depth && nat_le config.depth 1024
-    && nat_le config.cost 1000000
-    && nat_le 1 config.horizon && nat_le config.horizon 576460752303423488
+    nat_le 1 config.lanes && nat_le config.lanes most_lanes
+    && nat_le 1 config.depth && nat_le config.depth most_depth
+    && nat_le config.cost most_cost
+    && nat_le 1 config.horizon && nat_le config.horizon lockstep_horizon
     && are_edges_ok config.edges && are_holds_ok config.holds && are_kept_ok config.kept
 
 -- the counter at which the entry was made

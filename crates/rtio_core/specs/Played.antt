@@ -1,5 +1,6 @@
 -- What a core keeps of its outputs, in terms of the outputs and resets of its history.
 use Rattle.std.specs.Prelude.{◌≡◌, ℕ, true, ◌+◌, ◌^◌, ◌≤◌, ◌<◌, List, [], length, vec_len, vec_capacity}
+use Rattle.limits.specs.Limits.{most_lanes}
 use Rattle.sed_lanes.specs.Calls.{all_held_from}
 use Rattle.sed_lanes.specs.Lanes.{held_events}
 use Rattle.sed_lanes.specs.Counters.{NeverFall}
@@ -15,7 +16,7 @@ use Rattle.rtio_core.specs.Told.{TellsLog}
 -- each part is what the steps make of it at the counter, and there is room for what a tick adds
 pub record IsPlayed (o : Outputs) (holds : List ℕ) (lanes depth : ℕ) (steps : List LaneStep) (counter : ℕ) : Type 0 where
   pub lanes_least : 1 ≤ lanes
-  pub lanes_most : lanes ≤ 32
+  pub lanes_most : lanes ≤ most_lanes
   pub depth_least : 1 ≤ depth
   pub in_time : NeverFall 0 steps counter
   pub standing : o.lanes ≡ lanes_after lanes depth (judged lanes depth steps) counter
@@ -31,10 +32,10 @@ pub record IsPlayed (o : Outputs) (holds : List ℕ) (lanes depth : ℕ) (steps 
   pub next : all_held_from o.next o.lanes ≡ true
   pub output_room : vec_len o.put_out + length (held_events o.lanes) ≤ vec_capacity o.put_out
   pub log_room : length (held_events o.lanes) ≤ o.log.room
-  pub heads : o.heads ≡ record { items = []; room = 32 }
-  pub kept : o.kept ≡ record { items = []; room = 32 }
-  pub collided : o.collided ≡ record { items = []; room = 32 }
-  pub busy : o.busy ≡ record { items = []; room = 32 }
+  pub heads : o.heads ≡ record { items = []; room = most_lanes }
+  pub kept : o.kept ≡ record { items = []; room = most_lanes }
+  pub collided : o.collided ≡ record { items = []; room = most_lanes }
+  pub busy : o.busy ≡ record { items = []; room = most_lanes }
 
 -- so it is for some steps
 abbrev pub IsPlayedTo : Outputs → ℕ → Type 0

@@ -5,6 +5,7 @@ ghost use Rattle.rtio_core.specs.Entries.{are_holds_ok, is_config_ok};
 
 use crate::NamedList;
 use crate::named::kept_ok;
+use limits::{CHANNELS, LOCKSTEP_HORIZON, MOST_COST, MOST_DEPTH, MOST_HOLD, MOST_LANES};
 use rtio_input::edges_ok;
 use rtio_types::{EdgeList, IntList, Outcome, Reply, Request, Waiting};
 use std::alloc::{AllocError, Global};
@@ -24,7 +25,7 @@ pub struct Config {
     /// The edges that the inputs get.
     pub edges: EdgeList,
     /// How many cycles each channel takes to execute an event, by channel, each 0 to 1,000,000.
-    pub holds: [u32; 32],
+    pub holds: [u32; CHANNELS],
     /// The recordings that the core begins with, at most 64 of different names.
     pub kept: NamedList,
 }
@@ -140,32 +141,22 @@ impl Config {
     }
 }
 
-const MOST_LANES: u32 = 32;
-
-const MOST_DEPTH: u32 = 1_024;
-
-const MOST_COST: u64 = 1_000_000;
-
-const MOST_HORIZON: u64 = 1 << 59;
-
-const MOST_HOLD: u32 = 1_000_000;
-
 /// Whether the numbers of the settings are in their ranges, the edges can be a script, and the recordings can be kept.
 pub fn config_ok(config: &Config) -> bool
     ensures { result ≡ is_config_ok config.now }
 {
-    (1..=MOST_LANES).contains(&config.lanes)
-        && (1..=MOST_DEPTH).contains(&config.depth)
+    (1..=MOST_LANES).contains(&u64::from(config.lanes))
+        && (1..=MOST_DEPTH).contains(&u64::from(config.depth))
         && config.cost <= MOST_COST
-        && (1..=MOST_HORIZON).contains(&config.horizon)
+        && (1..=LOCKSTEP_HORIZON).contains(&config.horizon)
         && edges_ok(config.edges.items())
         && holds_ok(&config.holds)
         && kept_ok(config.kept.items())
 }
 
 // Whether each hold is in its range.
-fn holds_ok(holds: &[u32; 32]) -> bool
+fn holds_ok(holds: &[u32; CHANNELS]) -> bool
     ensures { result ≡ are_holds_ok holds.now }
 {
-    holds.iter().all(|hold| *hold <= MOST_HOLD)
+    holds.iter().all(|hold| u64::from(*hold) <= MOST_HOLD)
 }

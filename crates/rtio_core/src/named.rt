@@ -7,6 +7,7 @@ ghost use Rattle.dma_store.specs.Kept.{is_playable};
 ghost use Rattle.rtio_core.specs.declared.named.Named.{Named};
 ghost use Rattle.rtio_core.specs.Handed.{are_kept_ok, are_names_different, has_name};
 
+use limits::MOST_HANDED_IN;
 use rtio_types::{Event, Name, Recording, Request, well_formed};
 use std::alloc::{AllocError, Global};
 use std::marker::Model;
@@ -83,14 +84,12 @@ fn copied(alloc: Global, items: &[Named]) -> Result<Vec<Named>, AllocError>
     Ok(copies)
 }
 
-const MOST_KEPT: usize = 64;
-
 /// Whether a core may begin with the recordings: at most 64, of different names, each of fewer than 2^32 events of the
 /// board.
 pub fn kept_ok(kept: &[Named]) -> bool
     ensures { result ≡ are_kept_ok kept.now }
 {
-    kept.len() <= MOST_KEPT && are_playable(kept) && are_names_different(kept)
+    kept.len() <= MOST_HANDED_IN && are_playable(kept) && are_names_different(kept)
 }
 
 // Whether each recording may be kept.

@@ -1,12 +1,14 @@
 // The outputs of a core: the lanes, what was put out of them, and the log.
 
 ghost use Rattle.std.specs.Prelude.{◌≡◌, ◌≢◌, ◌≤◌, ◌<◌, ◌+◌, ◌^◌, ℕ, List, [], ◌∷◌, ◌++◌, IfOk, OnOk, OnErr, drop, length, map, vec_len, vec_capacity};
+ghost use Rattle.limits.specs.Limits.{most_depth, most_lanes};
 ghost use Rattle.rtio_types.specs.Time.{cycle_of};
 ghost use Rattle.sed_lanes.specs.Judged.{LaneStep, Submit, Clear};
 ghost use Rattle.sed_lanes.specs.Verdict.{Undecided, verdict};
 ghost use Rattle.rtio_core.specs.Played.{IsPlayed, IsPlayedTo, HasRoom};
 ghost use Rattle.rtio_core.specs.Lines.{lines_for};
 
+use limits::{CHANNELS, MOST_LANES};
 use output_merge::{Holds, merge};
 use rtio_log::{Log, LogKind, LogLine};
 use rtio_types::{Event, cycle_of};
@@ -37,7 +39,7 @@ pub struct Outputs {
 }
 
 // No drain takes more: one event of each lane.
-const MOST_HEADS: u32 = 32;
+const MOST_HEADS: u32 = MOST_LANES as u32;
 
 // Puts events out in their order.
 fn put_out(from: &mut Heads, into: &mut Vec<Event>)
@@ -76,12 +78,12 @@ impl Outputs {
     /// No output yet.
     pub fn new(
         alloc: Global,
-        holds: &[u32; 32],
+        holds: &[u32; CHANNELS],
         lanes: u32,
         depth: u32,
     ) -> Result<Outputs, AllocError>
-        requires lanes { (1 ≤ lanes) × (lanes ≤ 32) }
-        requires depth { (1 ≤ depth) × (depth ≤ 1024) }
+        requires lanes { (1 ≤ lanes) × (lanes ≤ most_lanes) }
+        requires depth { (1 ≤ depth) × (depth ≤ most_depth) }
         ensures { IfOk result (λ outputs. IsPlayed outputs holds.now lanes depth [] 0) }
     {
         let heads = Heads::with_room(alloc, MOST_HEADS)?;

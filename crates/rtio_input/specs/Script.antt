@@ -3,6 +3,7 @@ use Rattle.std.specs.Prelude.{ℕ, ◌^◌, Bool, true, ◌&&◌, ◌||◌, List
 use Rattle.std.specs.Prelude.{length, filter, nat_le, nat_lt, pos, int_le, int_lt}
 use Rattle.std.specs.Ordering.{int_eq}
 use Rattle.std.specs.List.{list_all}
+use Rattle.limits.specs.Limits.{most_edges, stamps_end}
 use Rattle.rtio_types.specs.declared.event.Edge.{Edge}
 use Rattle.rtio_types.specs.Time.{cycle_of_stamp}
 use Rattle.rtio_types.specs.Board.{is_input}
@@ -11,9 +12,9 @@ use Rattle.rtio_types.specs.Board.{is_input}
 abbrev pub edge_cycle : Edge → ℕ
 edge_cycle x = cycle_of_stamp x.stamp
 
--- an edge of an input, with a stamp from 0 to below 2^62
+-- an edge of an input, with a stamp of a script
 abbrev pub is_edge_ok : Edge → Bool
-is_edge_ok x = is_input x.channel && int_le (pos 0) x.stamp && int_lt x.stamp (pos (2 ^ 62))
+is_edge_ok x = is_input x.channel && int_le (pos 0) x.stamp && int_lt x.stamp (pos stamps_end)
 
 -- by stamp, and then by channel
 abbrev pub is_edge_before : Edge → Edge → Bool
@@ -25,9 +26,9 @@ are_rising [] = true
 are_rising (x ∷ []) = true
 are_rising (x ∷ y ∷ rest) = is_edge_before x y && are_rising (y ∷ rest)
 
--- at most 4,096 edges of inputs, strictly rising by stamp and channel
+-- few enough edges of inputs, strictly rising by stamp and channel
 abbrev pub are_edges_ok : List Edge → Bool
-are_edges_ok edges = nat_le (length edges) 4096 && list_all is_edge_ok edges && are_rising edges
+are_edges_ok edges = nat_le (length edges) most_edges && list_all is_edge_ok edges && are_rising edges
 
 -- none is of an earlier cycle than one before it
 abbrev pub are_by_cycle : List Edge → Bool

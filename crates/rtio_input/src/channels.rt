@@ -6,13 +6,14 @@ ghost use Rattle.rtio_input.specs.Script.{are_of_inputs};
 ghost use Rattle.rtio_input.specs.Calls.{after_edges, after_events, channel_after_cycle, closed_channels, each_channel};
 
 use crate::channel::Channel;
+use limits::{CHANNELS, FIRST_INPUT};
 use rtio_types::{Edge, Event, is_input};
 use std::alloc::{AllocError, Global};
 
-const COUNT: usize = 8;
+const COUNT: usize = CHANNELS - FIRST_INPUT as usize;
 
 /// The channel of the first input.
-pub const FIRST: u8 = 24;
+pub const FIRST: u8 = FIRST_INPUT as u8;
 
 /// Inputs that see nothing.
 pub fn closed_channels(alloc: Global) -> Result<Vec<Channel>, AllocError>

@@ -4,20 +4,17 @@ ghost use Rattle.std.specs.Prelude.{◌≡◌, ◌<◌, ◌^◌};
 ghost use Rattle.std.specs.List.{list_all};
 ghost use Rattle.rtio_input.specs.Script.{are_by_cycle, are_edges_ok, are_rising, edge_cycle, is_edge_before, is_edge_ok};
 
+use limits::{MOST_EDGES, STAMPS_END};
 use rtio_types::{Edge, cycle_of_stamp, is_input};
 use std::alloc::{AllocError, Global};
 use std::marker::Model;
-
-const EDGES_MOST: usize = 4096;
-
-const STAMPS_END: i64 = 1 << 62;
 
 /// Whether the edges can be a script: at most 4,096, of the board's inputs, with stamps from 0 to below 2^62 mu,
 /// strictly rising by stamp and, at the same stamp, by channel. The limits are this project's own.
 pub fn edges_ok(edges: &[Edge]) -> bool
     ensures { result ≡ are_edges_ok edges.now }
 {
-    edges.len() <= EDGES_MOST && are_ok(edges) && are_rising(edges)
+    edges.len() <= MOST_EDGES && are_ok(edges) && are_rising(edges)
 }
 
 /// The cycle of an edge, as that of an event.
@@ -30,7 +27,7 @@ pub fn edge_cycle(edge: &Edge) -> u64
 fn edge_ok(edge: &Edge) -> bool
     ensures { result ≡ is_edge_ok edge.now }
 {
-    is_input(edge.channel) && 0 <= edge.stamp && edge.stamp < STAMPS_END
+    is_input(edge.channel) && 0 <= edge.stamp && edge.stamp < STAMPS_END as i64
 }
 
 fn are_ok(edges: &[Edge]) -> bool

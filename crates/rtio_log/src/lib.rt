@@ -3,6 +3,9 @@
 
 ghost use Rattle.std.specs.Prelude.{◌≡◌, ◌+◌, ◌-◌, ◌<◌, ◌++◌, [], ◌∷◌, OnOk, OnErr};
 
+mod kinds;
+
+pub use kinds::is_kind;
 use rtio_types::Event;
 use std::alloc::{AllocError, Global};
 use std::marker::Model;

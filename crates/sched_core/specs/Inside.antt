@@ -1,6 +1,7 @@
 -- A scheduler as it is kept.
 use Rattle.std.specs.Prelude.{◌≡◌, ℕ, ◌≤◌, ◌<◌, List, length, slice_get, true, ℤ}
 use Rattle.std.specs.Prelude.{Option, Some, None, IsTrue, vec_len, vec_capacity}
+use Rattle.limits.specs.Limits.{most_runs}
 use Rattle.exp_runs.specs.declared.run.Run.{Run}
 use Rattle.exp_runs.specs.Keys.{run_of}
 use Rattle.exp_model.specs.declared.session.Session.{Session}
@@ -19,7 +20,7 @@ module _ {P : Type 0} where
   -- the kits of the runs, by number: each is one for its run, and a run that waits for a step has one
   pub record AreKits (source : P → ℕ) (stands_for : P → List ℕ → Type 0) (has_call : P → List ℕ → List ℤ → Type 0)
       (session : Session) (state : SchedState) (kits : List (Option P)) : Type 0 where
-    pub count : length kits ≡ 64
+    pub count : length kits ≡ most_runs
     pub right : (rid : ℕ) (kit : P) → slice_get kits rid ≡ Some (Some kit) → (run : Run) × (run_of state.runs rid ≡ Some run) × IsKitFor source stands_for has_call session run kit
     pub there : (rid : ℕ) → waits state rid ≡ true → (kit : P) × (slice_get kits rid ≡ Some (Some kit))
 

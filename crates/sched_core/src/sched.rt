@@ -1,6 +1,7 @@
 // The scheduler itself.
 
 ghost use Rattle.std.specs.Prelude.{◌≡◌, ◌≤◌, ◌+◌, ◌++◌, ◌<◌, Some, None, length, replicate, IsTrue, IfOk, OnOk, OnErr, vec_len, vec_capacity};
+ghost use Rattle.limits.specs.Limits.{most_runs};
 ghost use Rattle.exp_model.specs.declared.session.Session.{Session};
 ghost use Rattle.exp_model.specs.Sessions.{is_session};
 ghost use Rattle.sched_core.specs.Scheds.{IsSched, new_sched, sched_state};
@@ -22,6 +23,7 @@ use crate::payload::Payload;
 use dataset_db::Datasets;
 use exp_model::Session;
 use exp_runs::Runs;
+use limits::MOST_RUNS;
 use sched_state::{Board, JobName, Look, SchedAct, SchedEntry};
 use std::alloc::{AllocError, Global};
 use std::marker::Model;
@@ -268,12 +270,12 @@ fn write_jumps(entries: &mut Vec<SchedEntry>, who: u32, clocks: &[u64])
     }
 }
 
-// Room for what the preparation of each run makes, with nothing in it: there are at most 64 runs.
+// Room for what the preparation of each run makes, with nothing in it.
 fn no_kits<P: Drop>(alloc: Global) -> Result<Vec<Option<P>>, AllocError>
-    ensures { IfOk result (λ kits. kits.items ≡ replicate 64 None) }
+    ensures { IfOk result (λ kits. kits.items ≡ replicate most_runs None) }
 {
     let mut kits = Vec::new(alloc);
-    for _made in 0..64u64 {
+    for _made in 0..MOST_RUNS {
         kits.push(None)?;
     }
     Ok(kits)

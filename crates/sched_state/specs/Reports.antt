@@ -1,6 +1,7 @@
 -- What the report of a job changes.
 use Rattle.std.specs.Prelude.{ℕ, ◌+◌, Bool, ◌&&◌, List, [], count_by, length, nat_le}
 use Rattle.std.specs.Prelude.{nat_lt, slice_get, if◌then◌else◌, Option, Some, None}
+use Rattle.limits.specs.Limits.{most_runs}
 use Rattle.rtio_types.specs.declared.outcome.Outcome.{Outcome}
 use Rattle.rtio_types.specs.declared.outcome.Outcome.TheVariants as outcome
 use Rattle.exp_runs.specs.declared.run.Run.{Run}
@@ -69,7 +70,7 @@ submissions_left arrivals = count_by submits arrivals
 
 -- there is no room for one more run
 abbrev pub is_full_of_runs : SchedState → Bool
-is_full_of_runs state = nat_le 64 (length state.runs + submissions_left state.arrivals)
+is_full_of_runs state = nat_le most_runs (length state.runs + submissions_left state.arrivals)
 
 -- what a step comes to: its word, the run's status then, and what else it changes
 pub record Effect : Type 0 where

@@ -28,10 +28,8 @@ use crate::storing::{store, store_sets};
 use dataset_db::Datasets;
 use exp_model::{Arrival, ArrivalAct, HostStep, Session, Submission};
 use exp_runs::{Run, Status};
+use limits::MOST_RUNS;
 use std::alloc::{AllocError, Global};
-
-// How many runs there may be, with the submissions that are still to arrive.
-const MOST_RUNS: u64 = 64;
 
 // The steps of the run's experiment.
 fn run_steps<'a>(session: &'a Session, run: &Run) -> &'a [HostStep]

@@ -3,6 +3,7 @@ use Rattle.std.specs.Prelude.{ℕ, ◌^◌, ◌≤◌, ◌<◌, All, Bool, true,
 use Rattle.std.specs.Prelude.{Option, Some, None, nat_lt, nat_le, length, flat_map, map, nat_eq}
 use Rattle.std.specs.List.{list_all, IsDistinct}
 use Rattle.std.specs.Map.{keys_of}
+use Rattle.limits.specs.Limits.{most_depth, most_lanes}
 use Rattle.rtio_types.specs.declared.event.Event.{Event}
 use Rattle.rtio_types.specs.Time.{cycle_of}
 use Rattle.sed_lanes.specs.declared.lane.Lane.{Lane}
@@ -40,11 +41,11 @@ pub record IsLane (depth : ℕ) (lane : Lane) : Type 0 where
 abbrev pub all_held : List Lane → List (ℕ × Event)
 all_held lanes = flat_map (λ (lane : LaneState). lane.held) (map row_state lanes)
 
--- lanes of a dispatcher: 1 to 32 of 1 to 1,024 places, one of them the current one, and no number twice
+-- lanes of a dispatcher: 1 to as many as there may be, of 1 to as many places, one of them the current one, and no number twice
 pub record AreLanes (depth current : ℕ) (lanes : List Lane) : Type 0 where
   pub depth_least : 1 ≤ depth
-  pub depth_most : depth ≤ 1024
+  pub depth_most : depth ≤ most_depth
   pub current_there : current < length lanes
-  pub lanes_most : length lanes ≤ 32
+  pub lanes_most : length lanes ≤ most_lanes
   pub each : All (IsLane depth) lanes
   pub own_numbers : IsDistinct nat_eq (keys_of (all_held lanes))

@@ -1,6 +1,7 @@
 // The lanes of a dispatcher.
 
 ghost use Rattle.std.specs.Prelude.{◌≡◌, ◌≢◌, ◌≤◌, ◌<◌, ◌+◌, ℕ, [], ◌∷◌, ◌++◌, List, IfOk, IsTrue, Some, false, is_some, length, pos, true};
+ghost use Rattle.limits.specs.Limits.{most_depth, most_lanes};
 ghost use Rattle.rtio_types.specs.Time.{cycle_of};
 ghost use Rattle.sed_lanes.specs.Calls.{Answers, LanesStandFor, after_verdict, all_held_after, all_held_from, held_at, is_new_number, wait_of, without};
 ghost use Rattle.sed_lanes.specs.Heads.{by_number};
@@ -49,8 +50,8 @@ impl Model for Lanes {
 impl Lanes {
     /// Empty lanes, 1 to 32 of them, with room for `depth` events in each, 1 to 1,024.
     pub fn new(alloc: Global, lanes: u32, depth: u32) -> Result<Lanes, AllocError>
-        requires lanes { (1 ≤ lanes) × (lanes ≤ 32) }
-        requires depth { (1 ≤ depth) × (depth ≤ 1024) }
+        requires lanes { (1 ≤ lanes) × (lanes ≤ most_lanes) }
+        requires depth { (1 ≤ depth) × (depth ≤ most_depth) }
         ensures empty { IfOk result (λ new. new ≡ empty_lanes lanes depth) }
         ensures stands { IfOk result (λ new. (counter : ℕ) → LanesStandFor new [] counter) }
     {

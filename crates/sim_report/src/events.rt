@@ -7,9 +7,8 @@ ghost use Rattle.rtio_log.specs.Kinds.{lines_of};
 ghost use Rattle.sim_report.specs.Lines.{count_line, event_fields, event_line, log_line};
 ghost use Rattle.sim_report.specs.Report.{log_counts, log_text};
 
-use crate::kinds::is_kind;
 use crate::numbers::{write_small, write_spaced};
-use rtio_log::{LogKind, LogLine};
+use rtio_log::{LogKind, LogLine, is_kind};
 use rtio_types::Event;
 use std::alloc::AllocError;
 

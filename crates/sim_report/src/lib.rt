@@ -6,7 +6,6 @@ mod closing;
 mod datasets;
 mod events;
 mod key;
-mod kinds;
 mod numbers;
 mod pending;
 mod recordings;

@@ -6,10 +6,9 @@ ghost use Rattle.rtio_log.specs.declared.LogKind.TheVariants as kind;
 ghost use Rattle.sim_report.specs.Pending.{pending_events, pends};
 ghost use Rattle.sim_report.specs.Steps.{may_pend, still_pends};
 
-use crate::kinds::is_kind;
 use crate::steps::{Step, step_of};
 use rtio_core::Core;
-use rtio_log::{LogKind, LogLine};
+use rtio_log::{LogKind, LogLine, is_kind};
 use rtio_types::{Event, cycle_of};
 use std::alloc::{AllocError, Global};
 

@@ -1,6 +1,7 @@
 // The verdict on a checked program.
 
 ghost use Rattle.std.specs.Prelude.{◌≡◌, IfOk};
+ghost use Rattle.limits.specs.Limits.{most_cost, most_depth};
 ghost use Rattle.slack_meaning.specs.Actions as A;
 ghost use Rattle.slack_meaning.specs.Programs.{verdict_of, verdict_where};
 ghost use Rattle.slack_meaning.specs.declared.span.Span.{Span as Bounds};
@@ -95,8 +96,8 @@ ghost use Rattle.slack_check.specs.Mains.{MainNeverUnderflows, verdict_of_main};
 /// depth answer, no output of the kernel underflows in a first session that begins at cursor 0. The only error is want of
 /// memory.
 pub fn slack(alloc: Global, checked: &Checked, cost: u64, depth: u32) -> Result<Verdict, AllocError>
-    requires cost { cost ≤ 1000000 }
-    requires depth { (1 ≤ depth) × (depth ≤ 1024) }
+    requires cost { cost ≤ most_cost }
+    requires depth { (1 ≤ depth) × (depth ≤ most_depth) }
     // The verdict is that of the run without a core.
     ensures verdict { IfOk result (λ verdict. verdict ≡ verdict_of_main (tree_of checked.now) cost depth) }
     // In no lawful history of that cost and at least that depth, whose first session asks a beginning of what `main` means, is

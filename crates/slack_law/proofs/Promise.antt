@@ -4,6 +4,7 @@ use Rattle.std.specs.Prelude.{ℤ, pos, slice_get, is_some, nat_le, max, min, �
 use Rattle.std.proofs.lemmas.Bool.{leb-true}
 use Rattle.std.proofs.lemmas.List.{length-map}
 use Rattle.std.proofs.lemmas.List.Elements.{All-nil, All-cons}
+use Rattle.limits.specs.Limits.{most_budget}
 use Rattle.rtio_types.specs.declared.request.Request.{Request}
 use Rattle.rtio_types.specs.declared.request.Reply.TheVariants as answer
 use Rattle.rtio_types.specs.Recordings.{Recorded}
@@ -26,7 +27,7 @@ use Rattle.slack_meaning.specs.declared.verdict.Stopped.TheVariants as W
 use Rattle.slack_meaning.specs.declared.span.Span.{Span}
 use Rattle.slack_meaning.specs.Actions as S
 use Rattle.slack_meaning.specs.Programs as G
-use Rattle.slack_meaning.specs.Programs.{most_units, slack_verdict}
+use Rattle.slack_meaning.specs.Programs.{slack_verdict}
 use Rattle.slack_law.specs.Promise.{Answered, first_session, requests_of, replies_of, AreAskedBy, AreInTime, NeverUnderflows}
 use Rattle.slack_law.proofs.AnswerTimes.{open-after}
 use Rattle.slack_law.proofs.Standing.{IsWithin, AreInTimeFor, Agree, asked_entry, bounds_of, IsBounded, Session, Stands, IsSafe, Meets, stopped, normally, alike, only}
@@ -82,7 +83,7 @@ session-of config chair rid before (entry ∷ rest) is lawful = by entry.chair e
     by who (End outcome cursor at) may ih = tt
 
 -- the bounds at the beginning of a session that is the first
-opening-bounded : (config : Config) (ranges : AreInRange config) (chair : ℕ) (of : StartOf) (cursor : ℤ) (at cost depth : ℕ) → MayFollow config [] chair (Start of cursor at) → config.cost ≡ cost → depth ≤ config.depth → IsBounded config (record { chair = chair; act = Start of cursor at } ∷ []) (bounds_of (G.opening most_units cost depth))
+opening-bounded : (config : Config) (ranges : AreInRange config) (chair : ℕ) (of : StartOf) (cursor : ℤ) (at cost depth : ℕ) → MayFollow config [] chair (Start of cursor at) → config.cost ≡ cost → depth ≤ config.depth → IsBounded config (record { chair = chair; act = Start of cursor at } ∷ []) (bounds_of (G.opening most_budget cost depth))
 opening-bounded config ranges chair of cursor at cost depth may same deep = record {
   running = (chair, of.rid);
   session = refl;
@@ -99,7 +100,7 @@ opening-bounded config ranges chair of cursor at cost depth may same deep = reco
   names = omega arith;
 }
 
-first-safe : (program : ProgramTree) (function cost depth outs : ℕ) (config : Config) (ranges : AreInRange config) (units chair : ℕ) (act : Act) (rest : List Entry) → slack_verdict program function cost depth ≡ Yes outs → config.cost ≡ cost → depth ≤ config.depth → MayFollow config [] chair act → IsLawfulAfter config (record { chair = chair; act = act } ∷ []) rest → units ≤ most_units → AreAskedBy program function units (first_session (record { chair = chair; act = act } ∷ rest)) → AreInTime (first_session (record { chair = chair; act = act } ∷ rest))
+first-safe : (program : ProgramTree) (function cost depth outs : ℕ) (config : Config) (ranges : AreInRange config) (units chair : ℕ) (act : Act) (rest : List Entry) → slack_verdict program function cost depth ≡ Yes outs → config.cost ≡ cost → depth ≤ config.depth → MayFollow config [] chair act → IsLawfulAfter config (record { chair = chair; act = act } ∷ []) rest → units ≤ most_budget → AreAskedBy program function units (first_session (record { chair = chair; act = act } ∷ rest)) → AreInTime (first_session (record { chair = chair; act = act } ∷ rest))
 first-safe program function cost depth outs config ranges units chair (Asked q r at) rest says same deep may lawful few asked = absurd (none-some (open_session []) (chair, may.0.0) refl may.0.1)
 first-safe program function cost depth outs config ranges units chair (End outcome cursor at) rest says same deep may lawful few asked = absurd (none-some (open_session []) (chair, may.0.0) refl may.0.1)
 first-safe program function cost depth outs config ranges units chair (Start of cursor at) rest says same deep may lawful few asked =
@@ -113,7 +114,7 @@ first-safe program function cost depth outs config ranges units chair (Start of 
       lawful = session-of config chair of.rid (start ∷ []) rest refl lawful;
     } in
     let s : State = opening (pos 0) units (replies_of session.world) in
-    let a : S.State = G.opening most_units cost depth in
+    let a : S.State = G.opening most_budget cost depth in
     let c : Completion ℤ = optional_body program (function_call program call_room) (slice_get program function) [] s in
     let stands : Stands session s a = record {
       past = [];

@@ -1,5 +1,6 @@
 -- What a yes promises: on no core does an output of the kernel come too late.
 use Rattle.std.specs.Prelude.{◌≡◌, ◌≢◌, ℕ, ◌≤◌, List, [], ◌∷◌, ◌++◌, map, pos, IsTrue, All}
+use Rattle.limits.specs.Limits.{most_budget}
 use Rattle.rtio_types.specs.declared.request.Request.{Request}
 use Rattle.rtio_types.specs.declared.request.Reply.{Reply}
 use Rattle.rtio_types.specs.declared.request.Reply.TheVariants as answer
@@ -11,7 +12,7 @@ use Rattle.rtio_core.specs.declared.data.Config.{Config}
 use Rattle.rtio_core.specs.declared.data.Entry.{Entry}
 use Rattle.rtio_core.specs.Entries.{is_config_ok}
 use Rattle.rtio_core.specs.Lawful.{IsLawful}
-use Rattle.slack_meaning.specs.Programs.{most_units}
+use Rattle.slack_meaning.specs.Programs.{}
 
 -- a request, its reply, and the counter at which it got it
 pub record Answered : Type 0 where
@@ -54,6 +55,6 @@ NeverUnderflows program function cost depth =
     → config.cost ≡ cost
     → depth ≤ config.depth
     → IsLawful config history
-    → units ≤ most_units
+    → units ≤ most_budget
     → AreAskedBy program function units (first_session history)
     → AreInTime (first_session history)

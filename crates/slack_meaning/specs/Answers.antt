@@ -1,6 +1,7 @@
 -- What a request does to the bounds.
 use Rattle.std.specs.Prelude.{ℕ, ◌+◌, ◌-◌, ◌^◌, max, nat_le, nat_lt, List, [], ◌∷◌, length, Bool, true}
 use Rattle.std.specs.Prelude.{false, not, ◌&&◌, ◌||◌, if◌then◌else◌, Option, Some, None, bytes_eq, ℤ, pos, ⊤}
+use Rattle.limits.specs.Limits.{lead_time}
 use Rattle.rtio_types.specs.declared.event.Event.{Event}
 use Rattle.rtio_types.specs.Time.{reading, whole_cycles, cycle_of_stamp, counter_reaching}
 use Rattle.kern_syntax.specs.Tree.{Bytes}
@@ -49,11 +50,11 @@ await moment s =
 abbrev pub lead_if : Bool → Action Span
 lead_if true s = leave_open K.Far s
 lead_if false s =
-    normal (record { least = pos (s.least + 125000); greatest = pos (s.limit + 125000) }) (counted s s.limit)
+    normal (record { least = pos (s.least + lead_time); greatest = pos (s.limit + lead_time) }) (counted s s.limit)
 
 -- a reading, and the lead over it
 abbrev pub read_lead : Action Span
-read_lead s = lead_if (nat_lt (2 ^ 62) (s.limit + 125000)) s
+read_lead s = lead_if (nat_lt (2 ^ 62) (s.limit + lead_time)) s
 
 -- the name was saved in this run
 abbrev pub is_known : List (Bytes × Option SpanRecording) → Bytes → Bool

@@ -1,5 +1,6 @@
 -- The run of a whole kernel without a core, and its verdict.
 use Rattle.std.specs.Prelude.{ℕ, zero, suc, List, [], ◌∷◌, replicate, pos, Option, Some, None, slice_get, ⊤}
+use Rattle.limits.specs.Limits.{most_budget}
 use Rattle.rtio_types.specs.declared.outcome.Exc.TheVariants.{StackOverflow}
 use Rattle.kern_syntax.specs.Tree.{Bytes, FunctionTree, ProgramTree}
 use Rattle.kern_calls.specs.declared.types.ValueType.{ValueType}
@@ -81,10 +82,6 @@ verdict_of (normal v s) = V.Yes s.outs
 verdict_of (early (decided stopped) s) = verdict_where stopped
 verdict_of (early reason s) = V.Yes s.outs
 
--- the greatest budget of a session
-abbrev pub most_units : ℕ
-most_units = 1000000
-
 -- the verdict on a function that takes no arguments, at a cost, for lanes of at least that depth
 abbrev pub slack_verdict : ProgramTree → (function cost depth : ℕ) → Verdict
 slack_verdict program function cost depth =
@@ -94,4 +91,4 @@ slack_verdict program function cost depth =
     (function_call program call_room)
     (slice_get program function)
     []
-    (opening most_units cost depth))
+    (opening most_budget cost depth))

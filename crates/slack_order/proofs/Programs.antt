@@ -1,6 +1,7 @@
 -- Functions and whole kernels follow those of the other run; so a yes stays a yes.
 use Rattle.std.proofs.Common.{◌≡◌, ℕ, zero, suc, ◌≤◌, List, [], ◌∷◌, Option, Some, None, refl, ap, ◌∙◌, arith}
 use Rattle.std.specs.Prelude.{pos, slice_get}
+use Rattle.limits.specs.Limits.{most_budget}
 use Rattle.rtio_types.specs.declared.outcome.Exc.TheVariants.{StackOverflow}
 use Rattle.kern_syntax.specs.Tree.{FunctionTree, ProgramTree}
 use Rattle.kern_calls.specs.declared.types.ValueType.{ValueType}
@@ -13,7 +14,7 @@ use Rattle.slack_meaning.specs.declared.verdict.Stopped.TheVariants as W
 use Rattle.slack_meaning.specs.declared.verdict.Verdict.TheVariants.{Yes}
 use Rattle.slack_meaning.specs.Actions.{Completion}
 use Rattle.slack_meaning.specs.Expressions.{Callee}
-use Rattle.slack_meaning.specs.Programs.{initial_value, initial_values, optional_body, function_call, opening, verdict_where, verdict_of, most_units}
+use Rattle.slack_meaning.specs.Programs.{initial_value, initial_values, optional_body, function_call, opening, verdict_where, verdict_of}
 use Rattle.slack_order.specs.Stays.{StaysYes}
 use Rattle.slack_order.proofs.Inside.{IsInside, inside-exactly}
 use Rattle.slack_order.proofs.Standing.{AreInside, IsHeldInside, AreNamesInside, LiesInside, by_break, by_continue, by_return, by_raising, by_budget, Meets, stopped, normally, alike}
@@ -65,7 +66,7 @@ yes-too outs (alike (by_return h) inside) is = ap Yes inside.bounds.outs ∙ is
 yes-too outs (alike (by_raising x) inside) is = ap Yes inside.bounds.outs ∙ is
 yes-too outs (alike by_budget inside) is = ap Yes inside.bounds.outs ∙ is
 
-begins-inside : (less more shallow deep : ℕ) → less ≤ more → shallow ≤ deep → LiesInside (opening most_units less deep) (opening most_units more shallow)
+begins-inside : (less more shallow deep : ℕ) → less ≤ more → shallow ≤ deep → LiesInside (opening most_budget less deep) (opening most_budget more shallow)
 begins-inside less more shallow deep cheaper deeper = record {
   values = tt;
   cursor = inside-exactly (pos 0);
@@ -85,5 +86,5 @@ begins-inside less more shallow deep cheaper deeper = record {
 pub stays-yes : (program : ProgramTree) (function : ℕ) → StaysYes program function
 stays-yes program function less more shallow deep outs cheaper deeper is =
     yes-too outs
-    ((follows_body program (follows_calls program call_room) (slice_get program function) [] [] tt).from (opening most_units less deep) (opening most_units more shallow) (begins-inside less more shallow deep cheaper deeper))
+    ((follows_body program (follows_calls program call_room) (slice_get program function) [] [] tt).from (opening most_budget less deep) (opening most_budget more shallow) (begins-inside less more shallow deep cheaper deeper))
     is

@@ -1,5 +1,6 @@
 -- The numbers of a slack run keep within 64 bits: each request takes a unit first.
 use Rattle.std.specs.Prelude.{◌≡◌, ◌+◌, ◌*◌, ◌^◌, ◌≤◌, Result, Ok, Err}
+use Rattle.limits.specs.Limits.{most_budget, most_cost}
 use Rattle.slack_meaning.specs.Actions.{State, Completion, normal, early}
 use Rattle.slack_state.specs.declared.early.Reason.{Reason}
 use Rattle.slack_state.specs.declared.meter.Meter.{Meter}
@@ -7,19 +8,19 @@ use Rattle.slack_state.specs.Ends.{reason_of}
 
 -- the units left pay for what the numbers may still become
 pub record IsSolvent (m : Meter) : Type 0 where
-  pub cost : m.cost ≤ 1000000
-  pub units : m.units ≤ 1000000
-  pub limit : m.limit + 1000000 * m.units ≤ 2 ^ 63 + 1000000 * 1000000
-  pub requests : m.requests + m.units ≤ 1000000
+  pub cost : m.cost ≤ most_cost
+  pub units : m.units ≤ most_budget
+  pub limit : m.limit + most_cost * m.units ≤ 2 ^ 63 + most_cost * most_budget
+  pub requests : m.requests + m.units ≤ most_budget
   pub outs : m.outs ≤ m.requests
   pub least : m.least ≤ m.limit
 
 -- a unit more was taken than requests were answered
 pub record HasPaid (m : Meter) : Type 0 where
-  pub cost : m.cost ≤ 1000000
-  pub units : m.units + 1 ≤ 1000000
-  pub limit : m.limit + 1000000 * (m.units + 1) ≤ 2 ^ 63 + 1000000 * 1000000
-  pub requests : m.requests + (m.units + 1) ≤ 1000000
+  pub cost : m.cost ≤ most_cost
+  pub units : m.units + 1 ≤ most_budget
+  pub limit : m.limit + most_cost * (m.units + 1) ≤ 2 ^ 63 + most_cost * most_budget
+  pub requests : m.requests + (m.units + 1) ≤ most_budget
   pub outs : m.outs ≤ m.requests
   pub least : m.least ≤ m.limit
 

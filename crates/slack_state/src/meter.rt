@@ -8,12 +8,10 @@ ghost use Rattle.slack_meaning.specs.Answers.{answered, await, read_lead, submit
 
 use crate::early::Reason;
 use crate::spans::{FARTHEST, are_both_numbers, exactly, sum};
+use limits::LEAD;
 use meaning_numbers::moved_on;
 use rtio_types::{Event, counter_reaching, cycle_of_stamp, reading, whole_cycles};
 use slack_meaning::{OpenKind, Span, SpanEvent, Stopped};
-
-// The lead that the cursor gets over a reading of the counter, in machine units (mu).
-const LEAD: u64 = 125_000;
 
 /// The units left, a bound for the core's limit and the least that its counter reads, both in mu, how many outputs and requests
 /// were asked, the cost of a request in mu, and how many events a lane takes at least.

@@ -5,6 +5,7 @@ use crate::meter::Meter;
 use crate::recordings::{Saved, SpanRecording, at_hand, forget, is_full_for, remember};
 use crate::spans::{exactly, is_number};
 use crate::values::{Held, Variable, are_numbers_in, changed, hold, item, number_of, numbers_of};
+use limits::MOST_BUDGET;
 use meaning_numbers::low_word;
 use rtio_types::{Exc, Name};
 use slack_meaning::{OpenKind, Span, SpanEvent, Stopped};
@@ -56,14 +57,15 @@ impl Model for Recorder {
 impl State {
     ghost use Rattle.std.specs.Prelude.{◌≡◌, ◌≤◌, OnOk};
     ghost use Rattle.slack_meaning.specs.Actions.{set_cursor, take_unit};
-    ghost use Rattle.slack_meaning.specs.Programs.{most_units, opening};
+    ghost use Rattle.limits.specs.Limits.{most_budget, most_cost};
+    ghost use Rattle.slack_meaning.specs.Programs.{opening};
     ghost use Rattle.slack_meaning.specs.Timeline.{append_event, delay, output};
     ghost use Rattle.slack_state.specs.Does.{Does, DoesAlways};
 
-    /// The state before a kernel, with a million units: cursor 0, and nothing asked, collected or saved.
+    /// The state before a kernel, with all the units of a run: cursor 0, and nothing asked, collected or saved.
     pub fn opening(alloc: Global, cost: u64, depth: u32) -> State
-        requires { cost ≤ 1000000 }
-        ensures { result ≡ opening most_units cost depth }
+        requires { cost ≤ most_cost }
+        ensures { result ≡ opening most_budget cost depth }
     {
         State {
             values: Vec::new(alloc),
@@ -71,7 +73,7 @@ impl State {
             collected: None,
             saved: Vec::new(alloc),
             meter: Meter {
-                units: 1_000_000,
+                units: MOST_BUDGET as u32,
                 limit: 0,
                 least: 0,
                 outs: 0,

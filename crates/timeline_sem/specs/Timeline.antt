@@ -1,6 +1,7 @@
 -- What the timed calls do.
 use Rattle.std.specs.Prelude.{ℕ, zero, suc, List, [], ◌∷◌, ◌++◌, ℤ, pos, ◌+ℤ◌, Option, Some, None, ⊤}
 use Rattle.std.specs.Int.{w32, int_wrap, int_max}
+use Rattle.limits.specs.Limits.{lead_time}
 use Rattle.rtio_types.specs.declared.event.Event.{Event}
 use Rattle.rtio_types.specs.declared.request.Request.TheVariants as Q
 use Rattle.rtio_types.specs.declared.request.Reply.{Reply}
@@ -103,7 +104,7 @@ play q = do
 
 -- the lead that the cursor gets over a reading
 abbrev pub with_lead : ℤ → ℤ
-with_lead reading = later reading (pos 125000)
+with_lead reading = later reading (pos lead_time)
 
 -- the first of a call's numbers; a typed call has it
 abbrev pub first_of_list : List ℤ → ℤ

@@ -3,11 +3,11 @@
 ghost use Rattle.std.specs.Prelude.{◌≡◌, [], ◌∷◌, map, IsTrue};
 ghost use Rattle.output_merge.specs.Outputs.{LogLists};
 ghost use Rattle.rtio_core.specs.Told.{TellsLog};
-ghost use Rattle.rtio_log.specs.Kinds.{is_kind, lines_of};
+ghost use Rattle.rtio_log.specs.Kinds.{lines_of};
 ghost use Rattle.trace_fates.specs.Passes.{AreNumberedFrom, marked, named};
 
 use crate::{Fate, TracedOutput};
-use rtio_log::{LogKind, LogLine};
+use rtio_log::{LogKind, LogLine, is_kind};
 
 /// Gives the outputs that the log names their fates, but for those that came too late. They stand by number.
 pub fn name_lost(outputs: &mut [TracedOutput], log: &[LogLine])
@@ -31,13 +31,6 @@ fn mark_kind(outputs: &mut [TracedOutput], log: &[LogLine], kind: LogKind, fate:
             mark(outputs, *line, fate);
         }
     }
-}
-
-// Whether two kinds are the same.
-fn is_kind(kind: LogKind, other: LogKind) -> bool
-    ensures { result ≡ is_kind kind other }
-{
-    kind == other
 }
 
 // Gives the one that a line names this fate.

@@ -1,6 +1,6 @@
 use Rattle.std.proofs.Common.{◌≤◌, ap, subst, sym, ◌∙◌}
+use Rattle.limits.specs.Limits.{most_nodes}
 use Rattle.code_law.specs.DoesAs.{DoesAs}
-use Rattle.kern_accepted.specs.Texts.{most_nodes}
 use Rattle.kern_syntax.specs.Nodes.{program_nodes}
 use Rattle.kern_syntax.specs.Tree.{ProgramTree}
 use Rattle.kern_syntax.specs.TreeOf.{tree_of}
