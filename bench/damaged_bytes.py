@@ -1,5 +1,5 @@
 #!/usr/bin/env python3
-"""Works out anew what tables of `crates/fault_rows/data` answer to damaged images and recordings, and prints each row that
+"""Works out anew what tables of `crates/program_rows/data/faults` answer to damaged images and recordings, and prints each row that
 has other answers, as it would stand. Words: the tables (images.rows and recordings.rows without one). Ends with status 1
 where a row has other answers.
 
@@ -381,7 +381,7 @@ def anew(row):
 def main():
     others = 0
     for name in sys.argv[1:] or TABLES:
-        with open(os.path.join(ROOT, "crates", "fault_rows", "data", name), encoding="utf-8") as file:
+        with open(os.path.join(ROOT, "crates", "program_rows", "data", "faults", name), encoding="utf-8") as file:
             rows = [row.split("\n") for row in file.read().rstrip().split("\n\n")]
         for row in rows:
             if row[0].startswith("== ") and anew(row) != row:

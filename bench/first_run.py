@@ -90,6 +90,8 @@ def seconds_of(top, name, env, limit=None):
 
 
 def main():
+    # (started in the background by a shell, it and the launchers would ignore the interruption)
+    signal.signal(signal.SIGINT, signal.default_int_handler)
     name = sys.argv[1] if len(sys.argv) > 1 else "artiq_sim"
     lanes = int(sys.argv[2]) if len(sys.argv) > 2 else len(os.sched_getaffinity(0))
     pace = int(sys.argv[3]) if len(sys.argv) > 3 else 10

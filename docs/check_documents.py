@@ -16,15 +16,15 @@ hand, ends with status 1 where something is otherwise than written, and says whe
   In both, `\\n` is the end of a line, and `\\t` a tab.
 - Where a sentence says that a text in backquotes gives, or is told as, a line in backquotes, the text is refused so.
 - Each kernel in examples/ gives its report and its trace under the options in its `.words`, and stands with these in a row
-  of sim_rows and one of trace_rows. Where it has `.answers`, each line "$ WORDS" there gives the lines below it. Each
-  session there that has a report gives it.
+  of program_rows, in data/sim and in data/trace. Where it has `.answers`, each line "$ WORDS" there gives the lines below
+  it. Each session there that has a report gives it.
 - Each path in backquotes is there, in RECIPES.md below crates/ too, but for those with NAME, any crate. ARCHITECTURE.md has
   the picture that sizes.py prints, names each file of definitions or its folder, and lists the crates of crates.txt in
   its order, each with the crates that it stands on and clauses that it has. Each word in backquotes in CONTRACTS.md
   stands in the code of the crate that its heading names, and in the map of BELIEVING.md in the files beside it. The
   numbers of definitions and lines there are those of definitions.py, to a tenth. The edits that WRONG_BODIES.md names
   stand in the gate, or in edits/ where it says so. The files that RECIPES.md names for another number of mu in a cycle have
-  as many bare 8s as it says, and it names each file that has the usage line of artiq_sim.
+  as many bare 8s as it says, and it names each file that has the usage line of artiq_sim, or a case of raw outputs.
 - The README has at most 12 KB, no cell of a table more than forty words.
 - Each script of docs/ runs. What needs a program that isn't installed is told as not tried, at the end.
 """
@@ -51,6 +51,8 @@ SCRIPTS = {
     "sizes.py": (["--house"], None),
     "what_stands_on.py": (["rtio_core"], None),
 }
+# A case of the kind of raw outputs, or of their method.
+CASES = re.compile(r"\bOutRaw(?:\)| c\)|,)|(?:\bP\.|Operation::|\()Write[ (]\w+\)")
 # Paths, but for those of any crate, NAME.
 BELOW_CRATES = re.compile(r"`((?!docs/|bench/|examples/|completions/|python/|launch/|edits/)(?![^`]*NAME)\w+/[\w./-]+)`")
 PATH = re.compile(r"`((?![^`]*NAME)(?:docs|crates|examples|bench|bin|launch|completions|python)/[\w./-]+)`")
@@ -155,8 +157,8 @@ class Checker:
             text = example.read_text()
             words = example.with_suffix(".words")
             options = words.read_text().split() if words.exists() else []
-            self.example(example, "report", self.program("sim", text, options), ["$ sim", *options], "sim_rows")
-            self.example(example, "trace", self.program("", text, options, "artiq_trace"), ["$", *options], "trace_rows")
+            self.example(example, "report", self.program("sim", text, options), ["$ sim", *options], "sim")
+            self.example(example, "trace", self.program("", text, options, "artiq_trace"), ["$", *options], "trace")
 
     def example(self, example, kind, answer, words, rows):
         """The report or the trace of an example is what the program answers, and what a row says."""
@@ -164,9 +166,9 @@ class Checker:
         self.expect(example.name, f"its {kind}", answer[1:], (written, ""))
         question = "".join(f"| {line}".rstrip() + "\n" for line in example.read_text().splitlines())
         lines = "".join(f"> {line}".rstrip() + "\n" for line in written.splitlines())
-        tables = "".join(table.read_text() for table in sorted((ROOT / "crates" / rows / "data").glob("*.rows")))
+        tables = "".join(table.read_text() for table in sorted((ROOT / "crates/program_rows/data" / rows).glob("*.rows")))
         row = question + " ".join(words) + "\n" + lines
-        self.expect(example.name, f"its row of {rows}", row in tables, True)
+        self.expect(example.name, f"its row in {rows}", row in tables, True)
 
     def answers(self):
         for answers in sorted((ROOT / "examples").glob("*.answers")):
@@ -273,6 +275,11 @@ class Checker:
             if usage and usage[1] in path.read_text():
                 name = str(path.relative_to(ROOT)).removeprefix("crates/")
                 self.expect("docs/RECIPES.md", f"names {name}, which has the usage line", f"`{name}`" in command, True)
+        channel = page.partition("## A new kind of channel")[2].partition("\n## ")[0]
+        for path in sorted(path for folder in ("src", "specs", "proofs") for path in ROOT.glob(f"crates/*/{folder}/**/*.*t*")):
+            if path.is_file() and CASES.search(path.read_text()):
+                name = str(path.relative_to(ROOT / "crates"))
+                self.expect("docs/RECIPES.md", f"names {name}, which has a case of raw outputs", f"`{name}`" in channel, True)
 
 
 def words_in(places):

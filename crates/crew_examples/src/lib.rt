@@ -1,6 +1,12 @@
-//! Sessions of several workers: that they run at once. The crate has tests alone; that a session has one report whoever serves it is
-//! shown by `crew_rows`.
+//! Workers of a laboratory: that several run at once, what one prepares, and where it passes the gate. The crate has tests alone; that a
+//! session has one report whoever serves it is shown by `program_rows`.
 #![tactic(auto)]
 
 #[cfg(test)]
+mod alone;
+#[cfg(test)]
 mod crews;
+#[cfg(test)]
+mod kits;
+#[cfg(test)]
+mod sessions;

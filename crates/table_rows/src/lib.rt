@@ -16,5 +16,5 @@ mod walking;
 
 pub use answers::{push_answer, push_output};
 pub use rows::{Tally, is_answer, is_row, push_line};
-pub use texts::push_text;
-pub use walking::{Bench, walk_tables};
+pub use texts::{push_bytes, push_text};
+pub use walking::{Bench, walk_table, walk_tables};

@@ -35,8 +35,8 @@ fn push_line(text: &mut Vec<u8>, line: &str) -> Result<(), AllocError> {
     Ok(())
 }
 
-// Bytes that are written in hexadecimal digits.
-fn push_bytes(text: &mut Vec<u8>, words: &str) -> Result<(), AllocError> {
+/// Pushes bytes that are written in hexadecimal digits, between blanks; what is none is left out. Fails only for want of memory.
+pub fn push_bytes(text: &mut Vec<u8>, words: &str) -> Result<(), AllocError> {
     for word in words.split(' ') {
         if let Ok(byte) = u8::from_str_radix(word, 16) {
             text.push(byte)?;

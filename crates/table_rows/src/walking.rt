@@ -27,8 +27,8 @@ pub fn walk_tables<B: Bench, R: Env + Files + Print + AllocGlobal>(rt: &R) -> io
     Ok(())
 }
 
-// Goes through the rows of a table, and gives what is printed of it. Fails only for want of memory.
-fn walk_table<B: Bench>(alloc: Global, name: &str, table: &str) -> Result<String, AllocError> {
+/// Goes through the rows of a table, and gives what is printed of it, as above. Fails only for want of memory.
+pub fn walk_table<B: Bench>(alloc: Global, name: &str, table: &str) -> Result<String, AllocError> {
     let mut tally = Tally::new(alloc);
     for paragraph in table.trim_end().split("\n\n") {
         if is_row(paragraph) {
