@@ -280,6 +280,7 @@ impl State {
     }
 
     /// Lets a name hold something new.
+    #[inline(always)]
     pub fn hold(&mut self, name: &[u8], held: Held)
         ensures { self.new ≡ record self.old { values = with_held self.old.values name.now (held_of held) } }
     {

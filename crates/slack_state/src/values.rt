@@ -143,6 +143,7 @@ pub fn are_numbers_in(variables: &[Variable], name: &[u8]) -> bool
 }
 
 /// Lets a name that is there hold something new.
+#[inline(always)]
 pub fn hold(variables: &mut [Variable], name: &[u8], held: Held)
     ensures { variables.new ≡ with_held variables.old name.now (held_of held) }
 {

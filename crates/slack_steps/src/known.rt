@@ -57,6 +57,9 @@ fn told_number(found: Found, number: i64) -> Option<i64>
     }
 }
 
+// What a literal or a name is needs no call of its own.
+#[inline(always)]
+#[cycle(known)]
 fn find(scope: &Scope<'_>, state: &State, e: &Expr, found: &mut Found) -> i64
     requires { IsRunnable (expression_of e.now) }
     ensures { Tells found.new result (scope_of scope.now) (expression_of e.now) state.now }
@@ -66,6 +69,18 @@ fn find(scope: &Scope<'_>, state: &State, e: &Expr, found: &mut Found) -> i64
             *found = Found::Number;
             *value as i64
         }
+        Expr::Variable(x) => find_name(state, x, found),
+        _ => find_parts(scope, state, e, found),
+    }
+}
+
+#[inline(never)]
+#[cycle(known)]
+fn find_parts(scope: &Scope<'_>, state: &State, e: &Expr, found: &mut Found) -> i64
+    requires { IsRunnable (expression_of e.now) }
+    ensures { Tells found.new result (scope_of scope.now) (expression_of e.now) state.now }
+{
+    match e {
         Expr::True => {
             *found = Found::Number;
             1
@@ -74,7 +89,6 @@ fn find(scope: &Scope<'_>, state: &State, e: &Expr, found: &mut Found) -> i64
             *found = Found::Number;
             0
         }
-        Expr::Variable(x) => find_name(state, x, found),
         Expr::Index(array, index) => {
             let place = find(scope, state, index, found);
             find_element(state, array, place, found)
@@ -112,7 +126,7 @@ fn find(scope: &Scope<'_>, state: &State, e: &Expr, found: &mut Found) -> i64
             let b = find(scope, state, right, found);
             find_disjunction(first, a, b, found)
         }
-        Expr::Call(_, _) | Expr::Method(_, _, _) => nothing(found),
+        _ => nothing(found),
     }
 }
 
@@ -174,6 +188,7 @@ fn kind_of(scope: &Scope<'_>, e: &Expr, is_int64: bool) -> ValueType
 }
 
 // What a name holds.
+#[inline(always)]
 fn find_name(state: &State, x: &Identifier, found: &mut Found) -> i64
     ensures { (scope : Y.Scope) → Tells found.new result scope (T.variable x.now) state.now }
 {

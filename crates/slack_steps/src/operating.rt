@@ -95,7 +95,28 @@ fn common_result(operator: BinaryOperator, a: i64, b: i64) -> Option<i64>
     Some(long)
 }
 
+// What is left by a quotient, which is the same whatever the type where the divisor is above 0.
+fn plain_remainder(a: i64, b: i64) -> Option<i64>
+    ensures { IfSome result (IsResult BinaryOperator.Remainder a b) }
+{
+    if b <= 0 {
+        return common_result(BinaryOperator::Remainder, a, b);
+    }
+    word(a.rem_euclid(b))
+}
+
+// A number shifted to the right, which is the same whatever the type where it is shifted by less than 32.
+fn plain_right_shift(a: i64, b: i64) -> Option<i64>
+    ensures { IfSome result (IsResult BinaryOperator.ShiftRight a b) }
+{
+    if b < 0 || 31 < b {
+        return common_result(BinaryOperator::ShiftRight, a, b);
+    }
+    word(a >> b as u32)
+}
+
 /// The result of an operator on two numbers, where it is seen without the type to be the same whatever the type.
+#[inline(always)]
 pub fn plain_result(operator: BinaryOperator, a: i64, b: i64) -> Option<i64>
     ensures { IfSome result (IsResult operator a b) }
 {
@@ -103,6 +124,8 @@ pub fn plain_result(operator: BinaryOperator, a: i64, b: i64) -> Option<i64>
         BinaryOperator::Add => word(a.checked_add(b)?),
         BinaryOperator::Subtract => word(a.checked_sub(b)?),
         BinaryOperator::Multiply => word(a.checked_mul(b)?),
+        BinaryOperator::Remainder => plain_remainder(a, b),
+        BinaryOperator::ShiftRight => plain_right_shift(a, b),
         BinaryOperator::BitAnd => word(a & b),
         BinaryOperator::BitXor => word(a ^ b),
         BinaryOperator::BitOr => word(a | b),

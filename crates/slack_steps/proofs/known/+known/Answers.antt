@@ -5,10 +5,10 @@ use Rattle.kern_syntax.specs.TreeOf.{expression_of}
 use Rattle.kern_names.specs.ScopeOf.{scope_of}
 use Rattle.slack_steps.specs.Known.{Tells}
 use Rattle.slack_steps.proofs.Parts.{as_word}
-use Rattle.slack_steps.proofs.known.+find.Goals as goal
+use Rattle.slack_steps.proofs.known.+known.Goals as goal
 
-pub returns-in-Binary : goal.returns-in-Binary
-returns-in-Binary t c =
+pub find_parts-returns-in-Binary : goal.find_parts-returns-in-Binary
+find_parts-returns-in-Binary t c =
     let scope = scope_of c.args.scope.now in
     let s = c.args.state.now in
     let e = expression_of c.args.e.now in
