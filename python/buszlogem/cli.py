@@ -9,7 +9,8 @@ from __future__ import annotations
 import argparse
 import importlib
 import sys
-from collections.abc import Sequence
+import warnings
+from collections.abc import Callable, Sequence
 
 from .errors import BuszlogemError, KernelError, OptionError, ProgramError, ProgramMissing
 from .version import VERSION
@@ -74,8 +75,10 @@ def main(words: Sequence[str] | None = None) -> int:
     """Does what the words say, and returns the status."""
     parsed = parser().parse_args(words)
     try:
-        status: int = parsed.do(parsed)
-        return status
+        with warnings.catch_warnings():
+            warnings.showwarning = _teller()
+            status: int = parsed.do(parsed)
+            return status
     except BuszlogemError as error:
         print(error, file=sys.stderr)
         return status_of(error)
@@ -86,6 +89,18 @@ def main(words: Sequence[str] | None = None) -> int:
     except OSError as error:
         print(f"{error.filename or 'buszlogem'}: {error.strerror or error}", file=sys.stderr)
         return UNREADABLE
+
+
+def _teller() -> Callable[..., None]:
+    """What tells a warning: each text once, without the line of this package that Python's own form names."""
+    told: set[str] = set()
+
+    def tell(message: Warning | str, *_where: object, **_more: object) -> None:
+        if str(message) not in told:
+            told.add(str(message))
+            print(f"warning: {message}", file=sys.stderr)
+
+    return tell
 
 
 def status_of(error: BuszlogemError) -> int:

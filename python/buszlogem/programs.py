@@ -22,6 +22,7 @@ import warnings
 from collections.abc import Iterable, Sequence
 
 from .errors import ProgramError, ProgramMissing
+from .shells import own_shell
 
 FOLDER_VARIABLE = "BUSZLOGEM_BIN"
 PROGRAMS = ("artiq_sim", "artiq_lab", "artiq_trace")
@@ -121,7 +122,7 @@ def _warn_if_older(program: pathlib.Path, top: pathlib.Path) -> None:
 
 
 def start(name: str, words: Sequence[str], given: str | bytes, timeout: float | None = None) -> Answer:
-    """Starts a program, without a shell, and waits for its end.
+    """Starts a program and waits for its end. In a thread of `ShellThreads` its shell starts it, without a timeout.
 
     Parameters
     ----------
@@ -147,9 +148,19 @@ def start(name: str, words: Sequence[str], given: str | bytes, timeout: float | 
     """
     data = given.encode() if isinstance(given, str) else given
     try:
-        ended = subprocess.run([find(name), *words], input=data, capture_output=True, timeout=timeout, check=False)
+        return Answer(*_ended([find(name), *words], data, timeout))
     except subprocess.TimeoutExpired as late:
         raise ProgramError(-9, "", f"{name} was ended after {timeout} seconds") from late
     except OSError as why:
         raise ProgramError(126, "", f"{name} can't be started: {why}") from why
-    return Answer(ended.returncode, ended.stdout.decode(), ended.stderr.decode())
+
+
+def _ended(command: Sequence[str | pathlib.Path], data: bytes, timeout: float | None) -> tuple[int, str, str]:
+    """The status of a program, and what it wrote to standard output and to standard error."""
+    shell = own_shell() if timeout is None else None
+    answered = shell.start(command, data) if shell is not None else None
+    if answered is None:
+        ended = subprocess.run(command, input=data, capture_output=True, timeout=timeout, check=False)
+        answered = ended.returncode, ended.stdout, ended.stderr
+    status, out, err = answered
+    return status, out.decode(), err.decode()

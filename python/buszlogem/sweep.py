@@ -16,6 +16,7 @@ from .faults import kernel_error
 from .kernels import KernelLike, read_kernel
 from .programs import Answer, start
 from .run import REFUSED, REPORTED, Job, prepare
+from .shells import ShellThreads
 from .store import Kept, Store
 from .table import Finished, Row, Table
 
@@ -51,8 +52,9 @@ def sweep(
         the others are parameters of the function `call`, by name. Of sequences of int: the arguments of `call`. Or of int: its
         only argument. `grid` makes the dicts of all combinations.
     executor : concurrent.futures.Executor, optional
-        Where the program is started; without it a pool of threads, one for each processor. `Client.get_executor()` of
-        dask.distributed and `MPIPoolExecutor` of mpi4py are executors. It is left open.
+        Where the program is started; without it a pool of threads, one for each processor, each with a shell that starts the
+        program (`buszlogem.shells.ShellThreads`). `Client.get_executor()` of dask.distributed and `MPIPoolExecutor` of mpi4py
+        are executors. It is left open.
     progress : bool
         Whether a bar of tqdm tells how many points are finished, where tqdm is installed.
     resume : str or path, optional
@@ -82,7 +84,7 @@ def sweep(
     listed = list(points)
     with contextlib.ExitStack() as stack:
         store = stack.enter_context(contextlib.closing(Store(resume))) if resume is not None else None
-        pool = executor or stack.enter_context(_threads())
+        pool = executor or stack.enter_context(ShellThreads(processors()))
         step = stack.enter_context(_progress(len(listed), progress))
         # Programs are running while later points are made ready.
         rows = _carry_out((_task(base, point, options) for point in listed), pool, store, step)
@@ -169,10 +171,6 @@ def _in_order(kernel: KernelLike, call: str | None, arguments: Mapping[str, Any]
     if set(names) != set(arguments):
         raise OptionError("point", dict(arguments), f"the arguments of {name}: {', '.join(names) or 'none'}")
     return [arguments[it] for it in names]
-
-
-def _threads() -> concurrent.futures.Executor:
-    return concurrent.futures.ThreadPoolExecutor(processors())
 
 
 def processors() -> int:

@@ -3,7 +3,6 @@
 from __future__ import annotations
 
 import argparse
-import concurrent.futures
 import io
 import re
 import sys
@@ -13,6 +12,7 @@ from .cli import write
 from .command_words import add_kernel, add_options, argument, kernel_of, options_of
 from .errors import OptionError
 from .plot_command import add_picture, picture_of
+from .shells import ShellThreads
 from .sweep import grid, processors, sweep
 
 FAILED = 10
@@ -57,7 +57,7 @@ def _do(parsed: argparse.Namespace) -> int:
     if parsed.jobs < 1:
         raise OptionError("jobs", parsed.jobs, "a number from 1 on")
     options = {name: value for name, value in options_of(parsed).items() if name not in values}
-    with concurrent.futures.ThreadPoolExecutor(parsed.jobs) as pool:
+    with ShellThreads(parsed.jobs) as pool:
         progress = not parsed.quiet and sys.stderr.isatty()
         table = sweep(kernel_of(parsed), grid(**values), pool, progress, resume=parsed.resume, **options)
     written = io.StringIO()

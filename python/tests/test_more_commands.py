@@ -9,6 +9,8 @@ from installed import needs
 from support import EXAMPLES, SimCase
 from test_commands import Shell
 
+from buszlogem import programs
+
 TRAIN = """\
 def train(wait: int64, pulses: int32):
     core.reset()
@@ -161,6 +163,13 @@ class Commands(ShellCase):
 
 class MarginCommand(ShellCase):
     needed = ("artiq_sim", "artiq_trace")
+
+    def test_margin_without_the_trace(self):
+        (self.shell.folder / "bin").mkdir()
+        (self.shell.folder / "bin" / "artiq_sim").symlink_to(programs.find("artiq_sim"))
+        status, out, err = self.shell.run("BUSZLOGEM_BIN=bin buszlogem margin steps.py")
+        self.assertEqual((status, out), (0, "margin 1599 mu, by slack\nthe output on ttl0 at 1600 mu is the first to be too late\n"))
+        self.assertRegex(err, r"\Awarning: no line is told: .*artiq_trace.*\n\Z")
 
     def test_margin(self):
         # The second output is asked for at the cost, and is late from 1600 on; at 1599 the counter reads 1592.

@@ -16,6 +16,7 @@ from installed import needs
 from support import SimCase
 
 from buszlogem import KernelError, OptionError, grid, int32, int64, kernel, programs, sweep
+from buszlogem.shells import ShellThreads
 from buszlogem.store import Kept, Store, as_text
 
 # A pause and a pulse in each turn: it is `wait + pulses * (200 + wait)` long.
@@ -118,7 +119,7 @@ class Sweeps(SimCase):
         self.assertEqual(len(sweep(TRAIN, [], progress=False)), 0)
 
     def test_executors(self):
-        for executor in (concurrent.futures.ThreadPoolExecutor, concurrent.futures.ProcessPoolExecutor):
+        for executor in (ShellThreads, concurrent.futures.ThreadPoolExecutor, concurrent.futures.ProcessPoolExecutor):
             with self.subTest(executor.__name__), executor(2) as pool:
                 self.assertEqual(self.lengths(sweep(TRAIN, POINTS, pool, False, call="train")), LENGTHS)
 
