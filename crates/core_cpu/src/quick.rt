@@ -11,7 +11,7 @@ ghost use Rattle.core_cpu.specs.declared.course.Course.TheVariants.{Silent};
 use crate::course::Way;
 use crate::state::State;
 use crate::step::control::{dup, jump, jump_zero, pop};
-use crate::step::frequent::{add, change_one, compare, multiply, subtract, wrap};
+use crate::step::frequent::{add, change_one, compare, modulo, multiply, subtract, wrap};
 use crate::step::operators::combine_plain;
 use crate::step::slots::{load, store};
 use crate::step::timeline::{at, delay, now};
@@ -97,6 +97,13 @@ fn quick_other(code: &Code, state: &mut State, instr: &Instr) -> Option<Way>
         Instr::Now => counted!(state, now(state)),
         Instr::At => counted!(state, at(state)),
         Instr::Delay => counted!(state, delay(state)),
+        Instr::Mod => {
+            // A division by 0 raises.
+            if state.operand() == 0 {
+                return None;
+            }
+            counted!(state, modulo(state))
+        }
         _ => None,
     }
 }

@@ -1,11 +1,19 @@
 // The operands of the frame that runs.
 
-ghost use Rattle.std.specs.Prelude.{◌≡◌, ◌<◌, ◌≤◌, [], ◌∷◌, length};
+ghost use Rattle.std.specs.Prelude.{◌≡◌, ◌<◌, ◌≤◌, [], ◌∷◌, length, slice_get, Some};
 ghost use Rattle.core_isa.specs.Machine.{with_operands};
 
 use crate::state::State;
 
 impl State {
+    /// The topmost operand.
+    pub fn operand(&self) -> i64
+        requires { 1 ≤ length self.now.machine.top.operands }
+        ensures { slice_get self.now.machine.top.operands 0 ≡ Some result }
+    {
+        self.operands.get(0)
+    }
+
     /// Puts an operand on top.
     pub fn push(&mut self, value: i64)
         requires { length self.old.machine.top.operands < 255 }

@@ -129,6 +129,7 @@ fn statement_at<'a>(
 
 // A statement, whose blocks have so much room.
 #[cycle(blocks)]
+#[inline(always)]
 fn any_statement_at<'a>(
     alloc: Global,
     room: u32,

@@ -57,6 +57,7 @@ fn close_bracket<'a>(
 
 /// An atom that no opening bracket and no dot follows.
 #[cycle(levels)]
+#[inline(always)]
 pub fn atom_at<'a>(
     alloc: Global,
     room: u32,
@@ -85,6 +86,7 @@ fn ended_atom<'a>(e: ReadExpr, tokens: Tokens<'a>) -> Result<(ReadExpr, Tokens<'
 
 // An atom, whatever follows it.
 #[cycle(levels)]
+#[inline(always)]
 fn bare_atom_at<'a>(
     alloc: Global,
     room: u32,
@@ -152,6 +154,7 @@ fn element_at<'a>(
 
 // A name with an index, with arguments, with a method, or alone, from what follows the name on.
 #[cycle(levels)]
+#[inline(always)]
 fn named_at<'a>(
     alloc: Global,
     room: u32,
@@ -248,6 +251,7 @@ pub fn comma_or_close<'a>(tokens: Tokens<'a>) -> Result<(bool, Tokens<'a>), Wron
 
 // The arguments of a call and the closing parenthesis, from what follows the opening one on.
 #[cycle(levels)]
+#[inline(always)]
 fn arguments_at<'a>(
     alloc: Global,
     room: u32,
@@ -270,6 +274,7 @@ fn arguments_at<'a>(
 
 // At least one argument, and the closing parenthesis.
 #[cycle(levels)]
+#[inline(always)]
 fn items_at<'a>(
     alloc: Global,
     room: u32,
@@ -293,6 +298,7 @@ fn items_at<'a>(
 
 // An argument: an expression, or a text in quotes.
 #[cycle(levels)]
+#[inline(always)]
 fn argument_at<'a>(
     alloc: Global,
     room: u32,
@@ -323,6 +329,7 @@ pub fn quoted_name(tokens: Tokens, at: u32, len: u32) -> Name
 
 // An expression as an argument.
 #[cycle(levels)]
+#[inline(always)]
 fn value_at<'a>(
     alloc: Global,
     room: u32,

@@ -69,6 +69,7 @@ pub fn level_at<'a>(
 
 // What stands before the operators: an atom, a prefix and its operand, or `not` and its operand.
 #[cycle(levels)]
+#[inline(always)]
 fn front_at<'a>(
     alloc: Global,
     room: u32,
@@ -139,6 +140,7 @@ fn row_at<'a>(
 
 // A prefix and its operand, or an atom.
 #[cycle(levels)]
+#[inline(always)]
 fn prefixed_at<'a>(
     alloc: Global,
     room: u32,
@@ -212,6 +214,7 @@ fn negation_at<'a>(
 }
 
 /// An expression with so much room for nesting.
+#[inline(always)]
 pub fn expression_at<'a>(
     alloc: Global,
     room: u32,

@@ -59,6 +59,7 @@ fn boxed(alloc: Global, e: ReadExpr) -> Option<Box<Expr>>
 }
 
 /// A name, unless memory is refused.
+#[inline(always)]
 pub fn identifier(alloc: Global, bytes: &[u8]) -> Option<Identifier>
     ensures { IsNamed result bytes.now }
 {
@@ -69,6 +70,7 @@ pub fn identifier(alloc: Global, bytes: &[u8]) -> Option<Identifier>
 }
 
 /// One more item behind others, unless one of them was lost or memory is refused.
+#[inline(always)]
 pub fn pushed<T: Drop>(items: Option<Vec<T>>, item: Option<T>) -> Option<Vec<T>>
     ensures { AddsItem (λ v. v.items) items item result }
 {
@@ -82,6 +84,7 @@ pub fn pushed<T: Drop>(items: Option<Vec<T>>, item: Option<T>) -> Option<Vec<T>>
 }
 
 /// A name as an expression.
+#[inline(always)]
 pub fn named(name: Option<Identifier>) -> ReadExpr
     ensures { (x : Bytes) → IsNamed name x → ReadAs result (variable x) }
 {
@@ -156,6 +159,7 @@ pub fn negated(alloc: Global, operand: ReadExpr) -> ReadExpr
 }
 
 /// A call of a function.
+#[inline(always)]
 pub fn called(function: Option<Identifier>, arguments: Option<Vec<Argument>>) -> ReadExpr
     ensures { (f : Bytes) (args : Arguments) → IsNamed function f →
         KeptAs (λ v. arguments_of v.items) arguments args → ReadAs result (call f args) }
@@ -184,6 +188,7 @@ pub fn method_called(
 }
 
 /// An expression as an argument.
+#[inline(always)]
 pub fn argument(e: ReadExpr) -> Option<Argument>
     ensures { (tree : Expression) → ReadAs e tree → KeptAs item_of result (value tree) }
 {

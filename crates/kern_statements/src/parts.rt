@@ -68,6 +68,7 @@ pub fn augmented(line: u32, place: ReadPlace, op: Augment, value: ReadExpr) -> O
 }
 
 /// An expression as a statement.
+#[inline(always)]
 pub fn evaluated(line: u32, e: ReadExpr) -> Option<Stmt>
     ensures { (tree : Expression) → ReadAs e tree → KeptAs line_of_statement result (on line (evaluate tree)) }
 {

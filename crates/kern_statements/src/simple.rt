@@ -22,6 +22,7 @@ use kern_syntax::{Augment, Expr, Identifier, Stmt, StmtKind};
 use std::alloc::Global;
 
 // A statement at the end of its line.
+#[inline(always)]
 fn ended_statement<'a>(
     statement: Option<Stmt>,
     tokens: Tokens<'a>,
@@ -328,6 +329,7 @@ fn expression_statement_at<'a>(
 }
 
 /// A statement on one line, with its Newline, which is missing where memory was refused.
+#[inline(always)]
 pub fn simple_at<'a>(
     alloc: Global,
     line: u32,

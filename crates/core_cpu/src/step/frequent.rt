@@ -1,6 +1,6 @@
 // Frequent operators, each by itself: so the compiler puts each into the loop where it is called.
 
-ghost use Rattle.std.specs.Prelude.{◌≡◌, ◌∷◌, List, ℤ, IsTrue};
+ghost use Rattle.std.specs.Prelude.{◌≡◌, ◌≢◌, ◌∷◌, List, ℤ, pos, Some, slice_get, IsTrue};
 ghost use Rattle.core_isa.specs.Machine.{Machine, push, with_operands};
 ghost use Rattle.core_isa.specs.Steps.{act};
 ghost use Rattle.core_isa.specs.declared.code.Code.{Code};
@@ -14,7 +14,7 @@ use super::operators::changed;
 use crate::course::Way;
 use crate::state::State;
 use core_isa::Instr;
-use word_arithmetic::low_signed;
+use word_arithmetic::{low_signed, remainder};
 
 fn sum(a: i64, b: i64) -> i64
     ensures { (code : Code) (m : Machine) (rest : List ℤ) →
@@ -35,6 +35,18 @@ fn product(a: i64, b: i64) -> i64
         act code I.Mul (with_operands m (b ∷ a ∷ rest)) ≡ push result (with_operands m rest) }
 {
     a.wrapping_mul(b)
+}
+
+// What a division leaves.
+fn left(a: i64, b: i64) -> i64
+    requires { b ≢ pos 0 }
+    ensures { (code : Code) (m : Machine) (rest : List ℤ) →
+        act code I.Mod (with_operands m (b ∷ a ∷ rest)) ≡ push result (with_operands m rest) }
+{
+    match remainder(a, b) {
+        Some(value) => value,
+        None => unreachable!(),
+    }
 }
 
 fn is_less(a: i64, b: i64) -> i64
@@ -72,6 +84,17 @@ pub fn multiply(state: &mut State) -> Way
     let b = state.pop();
     let a = state.pop();
     gives(state, product(a, b))
+}
+
+/// What the first one's division by the topmost one leaves, which isn't 0.
+pub fn modulo(state: &mut State) -> Way
+    requires fits { Fits 2 1 state.old }
+    requires divisor { slice_get state.old.machine.top.operands 0 ≢ Some (pos 0) }
+    ensures { (code : Code) → TurnsTo (act code I.Mod) state.old (Silent result) state.new }
+{
+    let b = state.pop();
+    let a = state.pop();
+    gives(state, left(a, b))
 }
 
 /// Whether the first one is less.

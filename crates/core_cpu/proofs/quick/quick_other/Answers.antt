@@ -1,8 +1,23 @@
+use Rattle.std.proofs.Common.{◌≤◌, length, arith}
 use Rattle.core_isa.specs.declared.instr.Instr.TheVariants as I
+use Rattle.core_cpu.specs.Courses.{Fits}
 use Rattle.core_cpu.specs.declared.course.Course.TheVariants.{Silent}
 use Rattle.core_cpu.proofs.Here.{fits_here, follow_here, turned}
 use Rattle.core_cpu.proofs.Settling.{counted_can, counted_turn}
 use Rattle.core_cpu.proofs.quick.quick_other.Goals as goal
+
+pub operand-requires : goal.operand-requires
+operand-requires c =
+    let fits : Fits 2 1 c.args.state.now =
+    fits_here c.args.code.now c.args.state.now c.args.instr.now c.requires 2 1 (follow_here c.args.code.now c.args.state.now c.args.instr.now c.requires I.Mod c.in-Mod.is) in
+    let enough : 2 ≤ length c.args.state.now.machine.top.operands = fits.enough in
+    omega arith
+
+pub modulo-requires-clause-fits : goal.modulo-requires-clause-fits
+modulo-requires-clause-fits c = fits_here c.args.code.now c.count-in-Mod.new.self c.args.instr.now (counted_can c.args.code.now c.args.state.now c.count-in-Mod.new.self c.args.instr.now c.count-in-Mod.ensures c.requires) 2 1 (follow_here c.args.code.now c.count-in-Mod.new.self c.args.instr.now (counted_can c.args.code.now c.args.state.now c.count-in-Mod.new.self c.args.instr.now c.count-in-Mod.ensures c.requires) I.Mod c.in-Mod.is)
+
+pub returns-else-operand-eq0-clause-quick : goal.returns-else-operand-eq0-clause-quick
+returns-else-operand-eq0-clause-quick c = counted_turn c.args.code.now c.args.state.now c.count-in-Mod.new.self c.modulo.new.state c.args.instr.now (Silent c.modulo.result) c.count-in-Mod.ensures (turned c.args.code.now c.args.instr.now I.Mod c.count-in-Mod.new.self c.modulo.new.state (Silent c.modulo.result) c.in-Mod.is (c.modulo.ensures c.args.code.now))
 
 pub pop-requires : goal.pop-requires
 pop-requires c = fits_here c.args.code.now c.count.new.self c.args.instr.now (counted_can c.args.code.now c.args.state.now c.count.new.self c.args.instr.now c.count.ensures c.requires) 1 0 (follow_here c.args.code.now c.count.new.self c.args.instr.now (counted_can c.args.code.now c.args.state.now c.count.new.self c.args.instr.now c.count.ensures c.requires) I.Pop c.in-Pop.is)
