@@ -1,5 +1,5 @@
 -- A call that enters a function, and one that is left.
-use Rattle.std.proofs.Common.{◌≡◌, ℕ, zero, suc, List, Result, ap, sym, subst, subst₂, ◌∙◌}
+use Rattle.std.proofs.Common.{◌≡◌, ◌≤◌, ◌<◌, ◌+◌, ◌*◌, ℕ, zero, suc, List, Result, arith, ap, sym, subst, subst₂, ◌∙◌}
 use Rattle.std.specs.Prelude.{⊤}
 use Rattle.rtio_types.specs.declared.outcome.Exc.TheVariants.{StackOverflow}
 use Rattle.kern_syntax.specs.Tree.{Bytes, FunctionTree, ProgramTree}
@@ -32,6 +32,10 @@ module _ (program : ProgramTree) (name : Bytes) (args : List Span) (s after : St
           let then : s ≡ after = cc in
           λ i. body (same i) (then i)
       by_unit (early reason s) is = cc
+
+-- its body, with what it takes to run one, is below the call
+pub body_falls : (room left size body : ℕ) → suc left ≡ room → 8 + body ≤ size → left * size + (body + 2) < room * size
+body_falls room left size body is small = rw (sym is) (omega (arith, small))
 
 -- a function that is entered leaves room for one less
 pub room_left : (room left : ℕ) (s after : State) → enter_call room s ≡ normal left after → suc left ≡ room

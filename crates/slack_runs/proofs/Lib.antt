@@ -1,5 +1,6 @@
 mod Arguments
 mod Entered
+mod Fronts
 mod Handled
 mod Operated
 mod Turning

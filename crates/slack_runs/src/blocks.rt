@@ -1,6 +1,6 @@
 // Statements and blocks.
 
-ghost use Rattle.kern_syntax.specs.TreeOf.{block_of, statement_of};
+ghost use Rattle.kern_syntax.specs.TreeOf.{block_of, lines_of, statement_of};
 ghost use Rattle.meaning_frames.specs.Frames.{scope_in};
 ghost use Rattle.slack_state.specs.Does.{Does};
 ghost use Rattle.meaning_steps.specs.RunnableStatements.{IsRunnableBlock, IsRunnableStatement};
@@ -11,13 +11,13 @@ use crate::branches::run_if;
 use crate::loops::{run_for_from_to, run_for_to, run_while};
 use crate::simple::{assign, assign_list, assign_repeated, augment, evaluate_alone, give_back};
 use crate::timed::{run_parallel, run_recorded, run_try};
-use kern_syntax::{Block, StmtKind};
+use kern_syntax::{Block, Stmt, StmtKind};
 use meaning_frames::Frame;
 use slack_state::{Early, Reason, State};
-use slack_steps::run_known;
+use slack_steps::{behind, lines, run_front, run_known};
 use std::alloc::Global;
 
-/// The statements of a block, one after another.
+/// The statements of a block, one after another. Those in front whose values are known run without calls of their own.
 #[cycle(runs)]
 pub fn run_block(
     alloc: Global,
@@ -28,7 +28,23 @@ pub fn run_block(
     requires { IsRunnableBlock (block_of body.now) }
     ensures { Does result state.new (block (scope_in frame.now) (calls_in frame.now) (block_of body.now) state.old) }
 {
-    for statement in body.statements.iter() {
+    let statements = lines(body);
+    let ran = run_front(&frame.scope, state, statements);
+    run_lines(alloc, frame, state, behind(statements, ran))
+}
+
+// Statements, one after another.
+#[cycle(runs)]
+fn run_lines(
+    alloc: Global,
+    frame: &Frame<'_>,
+    state: &mut State,
+    statements: &[Stmt],
+) -> Result<(), Early>
+    requires { IsRunnableBlock (lines_of statements.now) }
+    ensures { Does result state.new (block (scope_in frame.now) (calls_in frame.now) (lines_of statements.now) state.old) }
+{
+    for statement in statements.iter() {
         run_statement(alloc, frame, state, &statement.kind)?;
     }
     Ok(())

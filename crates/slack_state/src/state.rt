@@ -4,7 +4,10 @@ use crate::early::{Early, Reason};
 use crate::meter::Meter;
 use crate::recordings::{Saved, SpanRecording, at_hand, forget, is_full_for, remember};
 use crate::spans::{exactly, is_number};
-use crate::values::{Held, Variable, are_numbers_in, changed, hold, item, number_of, numbers_of};
+use crate::values::{
+    Held, Variable, are_numbers_in, changed, hold, hold_at, item, number_at, number_of, numbers_of,
+    place_of,
+};
 use limits::MOST_BUDGET;
 use meaning_numbers::low_word;
 use rtio_types::{Exc, Name};
@@ -237,6 +240,7 @@ impl State {
     ghost use Rattle.std.specs.Prelude.{[], Some, option_map, pos};
     ghost use Rattle.slack_meaning.specs.Expressions.{are_numbers, held_by, read_element, span_in, spans_in, with_held, write_element};
     ghost use Rattle.slack_meaning.specs.Spans.{exactly};
+    ghost use Rattle.slack_state.specs.Entries.{held_at, place_of, with_held_at};
     ghost use Rattle.slack_state.specs.Values.{held_of};
 
     /// Opens a record block, with the cursor at 0 and nothing collected. What was there is set aside.
@@ -265,6 +269,22 @@ impl State {
         number_of(&self.values, name)
     }
 
+    /// The place of a name among the values, which is behind the last one where the name isn't there.
+    #[inline(always)]
+    pub fn place(&self, name: &[u8]) -> usize
+        ensures { result ≡ place_of self.now.values name.now }
+    {
+        place_of(&self.values, name)
+    }
+
+    /// What a place holds, the number 0 for an array or where nothing is.
+    #[inline(always)]
+    pub fn span_at(&self, place: usize) -> Span
+        ensures { result ≡ span_in (held_at self.now.values place) }
+    {
+        number_at(&self.values, place)
+    }
+
     /// The elements of the array that a name holds, none for a number.
     pub fn spans(&self, name: &[u8]) -> &[Span]
         ensures { result.now ≡ spans_in (held_by self.now.values name.now) }
@@ -285,6 +305,14 @@ impl State {
         ensures { self.new ≡ record self.old { values = with_held self.old.values name.now (held_of held) } }
     {
         hold(&mut self.values, name, held);
+    }
+
+    /// Lets a place hold something new, if it is there.
+    #[inline(always)]
+    pub fn hold_at(&mut self, place: usize, held: Held)
+        ensures { self.new ≡ record self.old { values = with_held_at self.old.values place (held_of held) } }
+    {
+        hold_at(&mut self.values, place, held);
     }
 
     /// An element of an array. A span as the index ends the run, and an index outside the array raises.

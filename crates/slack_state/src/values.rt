@@ -118,6 +118,32 @@ pub fn number_of(variables: &[Variable], name: &[u8]) -> Span
     exactly(0)
 }
 
+/// The place of a name among some, which is behind the last one where the name isn't there.
+#[inline(always)]
+pub fn place_of(variables: &[Variable], name: &[u8]) -> usize
+    ensures { result ≡ place_of variables.now name.now }
+{
+    for i in 0..variables.len() {
+        if variables[i].is_named(name) {
+            return i;
+        }
+    }
+    variables.len()
+}
+
+ghost use Rattle.slack_state.specs.Entries.{held_at, place_of, with_held_at};
+
+/// The number that a place holds, 0 for an array or where nothing is.
+#[inline(always)]
+pub fn number_at(variables: &[Variable], place: usize) -> Span
+    ensures { result ≡ span_in (held_at variables.now place) }
+{
+    if place < variables.len() {
+        return variables[place].number();
+    }
+    exactly(0)
+}
+
 /// The array that a name holds, an empty one for a number or a name that isn't there.
 pub fn numbers_of<'b>(variables: &'b [Variable], name: &[u8]) -> &'b [Span]
     ensures { result.now ≡ spans_in (held_by variables.now name.now) }
@@ -153,6 +179,17 @@ pub fn hold(variables: &mut [Variable], name: &[u8], held: Held)
             return;
         }
     }
+}
+
+/// Lets a place that is there hold something new.
+#[inline(always)]
+pub fn hold_at(variables: &mut [Variable], place: usize, held: Held)
+    ensures { variables.new ≡ with_held_at variables.old place (held_of held) }
+{
+    if variables.len() <= place {
+        return;
+    }
+    variables[place].hold(held);
 }
 
 /// The item of an index, if it is one of the places.

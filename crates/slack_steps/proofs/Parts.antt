@@ -1,8 +1,7 @@
 -- The numbers of expressions whose parts are numbers.
-use Rattle.std.proofs.Common.{◌≡◌, ℕ, Bool, true, false, List, Option, Some, None, option_map, Result, Ok, Err, refl, ap, sym, subst, ◌∙◌, FitsSigned, to_z, of_z, w64}
-use Rattle.std.specs.Prelude.{ℤ, pos, ◌&&◌, not, ⊤}
+use Rattle.std.proofs.Common.{◌≡◌, ℕ, Bool, true, false, Option, Some, None, option_map, refl, ap, sym, subst, ◌∙◌, FitsSigned, to_z, of_z, w64}
+use Rattle.std.specs.Prelude.{ℤ, pos, ◌&&◌, not, ⊤, IfSome}
 use Rattle.std.specs.Int.{int_wrap}
-use Rattle.std.specs.Ordering.{int_eq}
 use Rattle.std.proofs.lemmas.Cmp.{int_eq_equiv}
 use Rattle.std.proofs.lemmas.Int.{to_z-of_z}
 use Rattle.std.proofs.lemmas.Bool.Decides.{Decides-int_eq}
@@ -15,7 +14,7 @@ use Rattle.kern_syntax.specs.declared.statement.Augment.{Augment}
 use Rattle.kern_syntax.specs.Tree.{Bytes, Expression, variable, element, unary, binary, compare, negation, conjunction, disjunction, assign, augment}
 use Rattle.kern_calls.specs.declared.types.ValueType.{ValueType}
 use Rattle.kern_calls.specs.declared.types.ValueType.TheVariants as T
-use Rattle.kern_calls.specs.Types.{Scope, binary_type, bits_of, type_of, width_of, wider_type}
+use Rattle.kern_calls.specs.Types.{Scope, binary_type, bits_of, type_of, width_of}
 use Rattle.timeline_sem.specs.Numbers.{compares, exact_result, unary_result}
 use Rattle.slack_meaning.specs.declared.span.Span.{Span}
 use Rattle.slack_meaning.specs.Spans.{exactly, is_number}
@@ -24,7 +23,9 @@ use Rattle.slack_meaning.specs.Expressions.{Callee, expression, held_by, operate
 use Rattle.slack_meaning.specs.Statements.{statement}
 use Rattle.timeline_sem.specs.Statements.{operator_of}
 use Rattle.slack_steps.specs.declared.known.Found.{Found}
-use Rattle.slack_steps.specs.Known.{IsKnownAs, Tells}
+use Rattle.slack_state.specs.Entries.{held_at, place_of, with_held_at}
+use Rattle.slack_state.proofs.Placed.{held_there, with_there}
+use Rattle.slack_steps.specs.Known.{HasRun, HoldsNext, IsKnownAs, Tells}
 use Rattle.slack_steps.proofs.Results.{both_numbers, numbers_some}
 
 -- a number is one
@@ -161,3 +162,16 @@ module _ (scope : Scope) where
       let last : Span → Action ⊤ = λ new. write x (number new) in
       ap (λ m. go_on m (λ a. operate (operator_of op) (type_of scope (variable x)) (span_in (held_by s.values x)) a >>= last)) (known callee)
       ∙ ap (λ m. go_on m last) sum
+
+  -- one whose sum is held at the name's place, if there is one
+  pub augment_ran : (callee : Callee) (x : Bytes) (op : Augment) (e : Expression) (s new : State) (added : ℤ) (place : ℕ) (held : Span) (sum : Option ℤ) (ran : Bool) → IsKnownAs scope e s added → place ≡ place_of s.values x → held ≡ span_in (held_at s.values place) → IfSome sum (λ n. (s : State) → operate (operator_of op) (type_of scope (variable x)) held (exactly added) s ≡ normal (exactly n) s) → HoldsNext ran place sum s new → HasRun ran s new (statement scope callee (augment x op e))
+  augment_ran callee x op e s new added place held (Some n) true known at is summed next =
+      let there : held ≡ span_in (held_by s.values x) = is ∙ ap (λ p. span_in (held_at s.values p)) at ∙ ap span_in (held_there s.values x) in
+      let sum : operate (operator_of op) (type_of scope (variable x)) (span_in (held_by s.values x)) (exactly added) s ≡ normal (exactly n) s = subst (λ h. operate (operator_of op) (type_of scope (variable x)) h (exactly added) s ≡ normal (exactly n) s) there (summed s) in
+      let same : with_held_at s.values place (number (exactly n)) ≡ with_held s.values x (number (exactly n)) = ap (λ p. with_held_at s.values p (number (exactly n))) at ∙ with_there s.values x (number (exactly n)) in
+      augmented callee x op e s added n known sum
+      ∙ ap (λ v. normal tt (record s { values = v })) (sym same)
+      ∙ ap (λ (left : State). normal tt left) (sym next)
+  augment_ran callee x op e s new added place held (Some n) false known at is summed next = absurd next
+  augment_ran callee x op e s new added place held None true known at is summed next = absurd next
+  augment_ran callee x op e s new added place held None false known at is summed next = next

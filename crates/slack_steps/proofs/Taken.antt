@@ -1,5 +1,5 @@
 -- The branch that an `if` takes where its condition is known, and a block of one statement.
-use Rattle.std.proofs.Common.{rules, ◌≡◌, ℕ, ◌<◌, ◌≤◌, true, false, List, [], ◌∷◌, length, get_or, drop, drop-cons, ap, sym, ◌∙◌, arith, Option, option_map}
+use Rattle.std.proofs.Common.{rules, ◌≡◌, ℕ, ◌<◌, ◌≤◌, true, false, List, [], ◌∷◌, length, get_or, drop-cons, ap, sym, ◌∙◌, arith, Option, option_map}
 use Rattle.std.proofs.Math.ListN.{drop_of_length-le}
 use Rattle.std.proofs.lemmas.List.{nil_from_length}
 use Rattle.std.specs.Prelude.{ℤ, Bool, ⊤}
@@ -11,7 +11,7 @@ use Rattle.kern_syntax.specs.declared.statement.StmtKind.TheFolds.{the_lemmas}
 use Rattle.kern_syntax.specs.Tree.{Expression, Statement, Block, Otherwise, done, if_then, line_then}
 use Rattle.kern_syntax.specs.TreeOf.{block_of, branches_of, else_of, line_of, lines_of, statement_of}
 use Rattle.kern_calls.specs.Types.{Scope}
-use Rattle.slack_meaning.specs.Actions.{State, Action, normal, go_on, as_number, ◌>>=◌}
+use Rattle.slack_meaning.specs.Actions.{State, Action, go_on, as_number, ◌>>=◌}
 use Rattle.slack_meaning.specs.Expressions.{Callee}
 use Rattle.slack_meaning.specs.Statements.{block, either, otherwise, statement}
 use Rattle.slack_steps.specs.Known.{HasRun, IsKnownAs}

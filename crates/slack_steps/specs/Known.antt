@@ -1,8 +1,8 @@
 -- What is known of a value before it is asked for.
-use Rattle.std.specs.Prelude.{◌≡◌, ℤ, Bool, true, false, Option, Some, None, option_map, ⊤}
+use Rattle.std.specs.Prelude.{◌≡◌, ℕ, ℤ, Bool, true, false, Option, Some, None, option_map, ⊤}
 use Rattle.std.specs.Int.{int_wrap}
 use Rattle.kern_syntax.specs.declared.expression.BinaryOperator.{BinaryOperator}
-use Rattle.kern_syntax.specs.Tree.{Bytes, Expression}
+use Rattle.kern_syntax.specs.Tree.{Expression}
 use Rattle.kern_calls.specs.declared.types.ValueType.{ValueType}
 use Rattle.kern_calls.specs.declared.types.ValueType.TheVariants.{Int64}
 use Rattle.kern_calls.specs.Types.{Scope, bits_of, type_of, width_of}
@@ -10,7 +10,8 @@ use Rattle.timeline_sem.specs.Numbers.{exact_result}
 use Rattle.slack_meaning.specs.declared.span.Span.{Span}
 use Rattle.slack_meaning.specs.Spans.{exactly}
 use Rattle.slack_meaning.specs.Actions.{State, Action, normal, number}
-use Rattle.slack_meaning.specs.Expressions.{Callee, expression, with_held}
+use Rattle.slack_meaning.specs.Expressions.{Callee, expression}
+use Rattle.slack_state.specs.Entries.{with_held_at}
 use Rattle.slack_steps.specs.declared.known.Found.{Found}
 use Rattle.slack_steps.specs.declared.known.Found.TheVariants as F
 
@@ -33,12 +34,12 @@ abbrev pub HasRun : Bool → (old new : State) → Action ⊤ → Type 0
 HasRun true old new does = does old ≡ normal tt new
 HasRun false old new does = new ≡ old
 
--- a name holds a number from now on, if there is one
-abbrev pub HoldsNext : Bool → Bytes → Option ℤ → (old new : State) → Type 0
-HoldsNext true x (Some n) old new = new ≡ record old { values = with_held old.values x (number (exactly n)) }
-HoldsNext true x None old new = ⊥
-HoldsNext false x (Some n) old new = ⊥
-HoldsNext false x None old new = new ≡ old
+-- a place holds a number from now on, if there is one
+abbrev pub HoldsNext : Bool → ℕ → Option ℤ → (old new : State) → Type 0
+HoldsNext true place (Some n) old new = new ≡ record old { values = with_held_at old.values place (number (exactly n)) }
+HoldsNext true place None old new = ⊥
+HoldsNext false place (Some n) old new = ⊥
+HoldsNext false place None old new = new ≡ old
 
 -- a number that was found is a span, or worth nothing
 abbrev pub IsSpan : Found → ℤ → Span → Type 0

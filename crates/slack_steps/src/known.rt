@@ -14,11 +14,11 @@ ghost use Rattle.slack_meaning.specs.Actions.{State as Run};
 ghost use Rattle.slack_steps.specs.Known.{IsKnownAs, Tells};
 
 use crate::kinds::begins_long;
-use crate::operating::plain_result;
+use crate::operating::{plain_result, typed_result};
 use kern_calls::ValueType;
 use kern_names::{Scope, type_of};
 use kern_syntax::{BinaryOperator, Comparison, Expr, Identifier, UnaryOperator};
-use meaning_numbers::{changed, compared, operated};
+use meaning_numbers::{changed, compared};
 use meaning_steps::{is_true, number_of};
 use slack_meaning::Span;
 use slack_state::{State, exactly, is_number};
@@ -310,7 +310,7 @@ fn find_typed(
         Tells found.new result (scope_of scope.now) (expression_of e.now) s }
 {
     let kind = kind_of(scope, e, is_int64);
-    match operated(operator, kind, m, n) {
+    match typed_result(operator, kind, m, n) {
         Some(number) => {
             *found = of_type(kind);
             number

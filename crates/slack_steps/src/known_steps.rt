@@ -16,10 +16,9 @@ ghost use Rattle.slack_steps.specs.Known.{HasRun};
 
 use crate::kinds::kind_of_name;
 use crate::known::known_number;
-use crate::operating::plain_result;
+use crate::operating::{plain_result, typed_result};
 use kern_names::Scope;
 use kern_syntax::{Augment, BinaryOperator, Block, Elif, Expr, Stmt, StmtKind, Target};
-use meaning_numbers::operated;
 use meaning_steps::{is_true, operator_of};
 use slack_meaning::Span;
 use slack_state::{Held, State, exactly, is_number};
@@ -125,8 +124,8 @@ fn run_only(scope: &Scope<'_>, state: &mut State, body: &Block) -> bool
     }
 }
 
-// The statements of a block.
-fn lines(body: &Block) -> &[Stmt]
+/// The statements of a block.
+pub fn lines(body: &Block) -> &[Stmt]
     ensures { lines_of result.now ≡ block_of body.now }
 {
     &body.statements
@@ -167,24 +166,23 @@ fn augment_known(
 {
     match known_number(scope, state, e) {
         Some(added) => {
-            let held = state.span(x);
-            hold_known(
-                state,
-                x,
-                known_sum(scope, x, operator_of(operator), held, added),
-            )
+            let place = state.place(x);
+            let held = state.span_at(place);
+            let sum = known_sum(scope, x, operator_of(operator), held, added);
+            hold_known(state, place, sum)
         }
         None => false,
     }
 }
 
-// Lets a name hold a number, if there is one. Whether there is.
-fn hold_known(state: &mut State, x: &[u8], number: Option<i64>) -> bool
-    ensures { HoldsNext result x.now number state.old state.new }
+// Lets a place hold a number, if there is one. Whether there is.
+#[inline(always)]
+fn hold_known(state: &mut State, place: usize, number: Option<i64>) -> bool
+    ensures { HoldsNext result place number state.old state.new }
 {
     match number {
         Some(number) => {
-            state.hold(x, Held::Number(exactly(number)));
+            state.hold_at(place, Held::Number(exactly(number)));
             true
         }
         None => false,
@@ -209,6 +207,6 @@ fn known_sum(
     }
     match plain_result(operator, held.least, added) {
         Some(number) => Some(number),
-        None => operated(operator, kind_of_name(scope, x), held.least, added),
+        None => typed_result(operator, kind_of_name(scope, x), held.least, added),
     }
 }

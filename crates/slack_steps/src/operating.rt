@@ -67,10 +67,11 @@ fn operate_spans(
     }
 }
 
-ghost use Rattle.std.specs.Prelude.{◌≡◌, IfSome};
-ghost use Rattle.std.specs.Int.{int_wrap};
+ghost use Rattle.std.specs.Prelude.{◌≡◌, IfSome, option_map};
+ghost use Rattle.std.specs.Int.{int_wrap, w64};
 ghost use Rattle.kern_calls.specs.declared.types.ValueType.{ValueType as Kind};
-ghost use Rattle.kern_calls.specs.Types.{width_of};
+ghost use Rattle.kern_calls.specs.Types.{bits_of, width_of};
+ghost use Rattle.timeline_sem.specs.Numbers.{exact_result};
 ghost use Rattle.slack_steps.specs.Known.{IsResult};
 
 // A number that wraps to itself whatever the type, if it is one.
@@ -130,6 +131,30 @@ pub fn plain_result(operator: BinaryOperator, a: i64, b: i64) -> Option<i64>
         BinaryOperator::BitXor => word(a ^ b),
         BinaryOperator::BitOr => word(a | b),
         _ => common_result(operator, a, b),
+    }
+}
+
+// The result of an operator on two int64. What kernels do most needs no call.
+#[inline(always)]
+fn long_result(operator: BinaryOperator, a: i64, b: i64) -> Option<i64>
+    ensures { result ≡ option_map (int_wrap w64) (exact_result operator 64 a b) }
+{
+    match operator {
+        BinaryOperator::Add => Some(a.wrapping_add(b)),
+        BinaryOperator::Subtract => Some(a.wrapping_sub(b)),
+        BinaryOperator::Multiply => Some(a.wrapping_mul(b)),
+        _ => operated(operator, ValueType::Int64, a, b),
+    }
+}
+
+/// The result of an operator on two numbers, wrapped at the width of its type; none of a division by 0.
+#[inline(always)]
+pub fn typed_result(operator: BinaryOperator, kind: ValueType, a: i64, b: i64) -> Option<i64>
+    ensures { result ≡ option_map (int_wrap (width_of kind)) (exact_result operator (bits_of kind) a b) }
+{
+    match kind {
+        ValueType::Int64 => long_result(operator, a, b),
+        _ => operated(operator, kind, a, b),
     }
 }
 

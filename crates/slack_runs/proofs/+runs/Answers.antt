@@ -1,4 +1,4 @@
-use Rattle.std.proofs.Common.{rules, ◌≡◌, ◌≤◌, ◌<◌, ◌*◌, Some, ◌+◌, ◌++◌, drop, ap, subst, sym, ◌∙◌, FitsSigned, to_z, of_z, ◌-◌, suc, true, false, Ok, arith}
+use Rattle.std.proofs.Common.{rules, ◌≡◌, ◌≤◌, ◌<◌, ◌*◌, Some, ◌+◌, ◌++◌, drop, ap, subst, subst₂, sym, ◌∙◌, FitsSigned, to_z, of_z, ◌-◌, suc, true, false, Ok, arith}
 use Rattle.std.specs.Prelude.{Bool, bytes_eq, option_to_list, pos, ◌+ℤ◌, ◌<ℤ◌}
 use Rattle.std.specs.Int.{w64, int_gap}
 use Rattle.std.proofs.lemmas.Grind.{common_steps}
@@ -7,17 +7,18 @@ use Rattle.std.proofs.lemmas.Result.{err_from_is_err_and}
 use Rattle.kern_syntax.specs.declared.expression.Argument.TheFolds.{the_lemmas}
 use Rattle.kern_syntax.specs.declared.statement.StmtKind.TheFolds as Statements
 use Rattle.kern_syntax.specs.Tree.{FunctionTree, Statement, augment_element, binary, for_range, if_then, no_more}
-use Rattle.kern_syntax.specs.TreeOf.{expression_of, arguments_of, argument_of, augment_of, block_of, branches_of, function_of, handlers_of, statement_of}
+use Rattle.kern_syntax.specs.TreeOf.{expression_of, arguments_of, argument_of, augment_of, block_of, branches_of, function_of, handlers_of, lines_of, statement_of}
 use Rattle.kern_calls.specs.Types.{function_named, names_of, type_of}
 use Rattle.kern_names.specs.ScopeOf.{program_of}
 use Rattle.kern_names.proofs.Members.{found_is_among}
 use Rattle.rtio_types.specs.Integers.{is_true}
 use Rattle.meaning_steps.specs.Handling.{handler_of}
 use Rattle.meaning_steps.specs.Runnable.{AreRunnable}
+use Rattle.meaning_steps.specs.RunnableStatements.{IsRunnableBlock}
 use Rattle.meaning_frames.specs.Frames.{scope_in}
 use Rattle.meaning_frames.proofs.Arguments.{runnable_rest, smaller_rest}
 use Rattle.meaning_frames.proofs.Sizes.{arguments_size, block_size, handlers_size, program_size}
-use Rattle.meaning_frames.proofs.Found.{found_runs, found_smaller, room_falls}
+use Rattle.meaning_frames.proofs.Found.{found_runs, found_smaller}
 use Rattle.meaning_frames.proofs.Handled.{handled_runs, handled_smaller}
 use Rattle.meaning_frames.proofs.Items.{drop_item}
 use Rattle.meaning_frames.proofs.Turning.{next_fits}
@@ -33,7 +34,8 @@ use Rattle.slack_steps.specs.Turns.{GoesOn, set_then}
 use Rattle.slack_runs.specs.Frames.{calls_in}
 use Rattle.slack_runs.specs.Values.{first_argument}
 use Rattle.slack_runs.proofs.Arguments.{argument_read, argument_ended}
-use Rattle.slack_runs.proofs.Entered.{call_entered, left_function, room_left}
+use Rattle.slack_runs.proofs.Entered.{body_falls, call_entered, left_function, room_left}
+use Rattle.slack_runs.proofs.Fronts.{left_runs, left_smaller}
 use Rattle.slack_runs.proofs.Handled.{handled, unhandled}
 use Rattle.slack_steps.proofs.Taken.{if_known}
 use Rattle.slack_runs.proofs.Operated.{binary_then, sum_then}
@@ -41,11 +43,39 @@ use Rattle.slack_runs.proofs.Turning.{for_here, while_here, while_over, while_st
 use Rattle.slack_runs.proofs.+runs.Goals as goal
 
 -- left to the prover these would be sought by `search` first, for minutes and in vain
-pub blocks::run_block-run_statement-requires : goal.blocks::run_block-run_statement-requires
-blocks::run_block-run_statement-requires t c = grind (Statements.the_lemmas, arith, common_steps)
+pub blocks::run_lines-run_statement-requires : goal.blocks::run_lines-run_statement-requires
+blocks::run_lines-run_statement-requires t c = grind (Statements.the_lemmas, arith, common_steps)
+
+pub blocks::run_lines-returns : goal.blocks::run_lines-returns
+blocks::run_lines-returns t c = grind (Statements.the_lemmas, arith, common_steps)
+
+pub blocks::run_block-run_front-ran-requires : goal.blocks::run_block-run_front-ran-requires
+blocks::run_block-run_front-ran-requires t c = subst IsRunnableBlock (sym c.lines-statements.ensures) c.requires
+
+pub blocks::run_block-behind-requires : goal.blocks::run_block-behind-requires
+blocks::run_block-behind-requires t c = c.run_front-ran.ensures.within
+
+pub blocks::run_block-run_lines-requires : goal.blocks::run_block-run_lines-requires
+blocks::run_block-run_lines-requires t c =
+    let lines = c.lines-statements.result.now in
+    let ran = c.run_front-ran.result in
+    let left = c.behind.result.now in
+    let room = c.args.frame.now.room * program_size (program_of c.args.frame.now.scope.functions) in
+    let small : block_size (lines_of left) ≤ block_size (block_of c.args.body.now) = subst₂ (λ l b. block_size (lines_of l) ≤ block_size b) (sym c.behind.ensures) c.lines-statements.ensures (left_smaller lines ran) in
+    let falls : room + block_size (lines_of left) < room + (block_size (block_of c.args.body.now) + 1) = omega (arith, small) in
+    (subst (λ t. room + block_size (lines_of left) < t) c.decreases falls, subst (λ l. IsRunnableBlock (lines_of l)) (sym c.behind.ensures) (left_runs lines ran (subst IsRunnableBlock (sym c.lines-statements.ensures) c.requires)))
 
 pub blocks::run_block-returns : goal.blocks::run_block-returns
-blocks::run_block-returns t c = grind (Statements.the_lemmas, arith, common_steps)
+blocks::run_block-returns t c =
+    let scope = scope_in c.args.frame.now in
+    let callee = calls_in c.args.frame.now in
+    let s = c.args.state.now in
+    let after = c.run_front-ran.new.state in
+    let whole : block scope callee (block_of c.args.body.now) s ≡ block scope callee (lines_of c.behind.result.now) after =
+    ap (λ b. block scope callee b s) (sym c.lines-statements.ensures)
+    ∙ c.run_front-ran.ensures.ran callee
+    ∙ ap (λ l. block scope callee (lines_of l) after) (sym c.behind.ensures) in
+    subst (Does c.run_lines.result c.run_lines.new.state) (sym whole) c.run_lines.ensures
 
 pub blocks::run_statement-returns-then-run_known : goal.blocks::run_statement-returns-then-run_known
 blocks::run_statement-returns-then-run_known t c =
@@ -307,8 +337,8 @@ functions::run_named-run_function-requires t c =
     let test : FunctionTree → Bool = λ f. bytes_eq c.args.name.now f.name in
     let small = found_smaller program test f found in
     let less = room_left c.args.frame.now.room left c.args.state.now c.enter_call.new.state c.in_ok-room.ensures in
-    let falls = room_falls c.args.frame.now.room left (program_size program) (block_size f.body) less small in
-    (subst (λ t. left * program_size program + (block_size f.body + 1) < t) c.decreases falls, (c.args.frame.now.runnable, (found_runs program test f found c.args.frame.now.runnable, found_is_among program test f found)))
+    let falls = body_falls c.args.frame.now.room left (program_size program) (block_size f.body) less small in
+    (subst (λ t. left * program_size program + (block_size f.body + 2) < t) c.decreases falls, (c.args.frame.now.runnable, (found_runs program test f found c.args.frame.now.runnable, found_is_among program test f found)))
 
 pub functions::run_named-returns-in-Some : goal.functions::run_named-returns-in-Some
 functions::run_named-returns-in-Some t c =
@@ -331,8 +361,8 @@ timed::handle-run_block-requires t c =
     let found : handler_of handlers c.args.exception ≡ Some body = sym c.in-Some.ensures in
     let small = handled_smaller handlers c.args.exception body found in
     let room = c.args.frame.now.room * program_size (program_of c.args.frame.now.scope.functions) in
-    let falls : room + block_size body < room + (handlers_size handlers + 1) = omega (arith, small) in
-    (subst (λ t. room + block_size body < t) c.decreases falls, handled_runs handlers c.args.exception body found c.requires)
+    let falls : room + (block_size body + 1) < room + (handlers_size handlers + 1) = omega (arith, small) in
+    (subst (λ t. room + (block_size body + 1) < t) c.decreases falls, handled_runs handlers c.args.exception body found c.requires)
 
 pub timed::handle-returns-in-Some : goal.timed::handle-returns-in-Some
 timed::handle-returns-in-Some t c =

@@ -32,10 +32,13 @@ abbrev pub decreases-functions::run_named : goal.decreases-functions::run_named
 decreases-functions::run_named l = l.frame.now.room * program_size (program_of l.frame.now.scope.functions)
 
 abbrev pub decreases-functions::run_function : goal.decreases-functions::run_function
-decreases-functions::run_function l = l.room * program_size (program_of l.functions.now) + (block_size (block_of l.function.now.body) + 1)
+decreases-functions::run_function l = l.room * program_size (program_of l.functions.now) + (block_size (block_of l.function.now.body) + 2)
 
 abbrev pub decreases-blocks::run_block : goal.decreases-blocks::run_block
-decreases-blocks::run_block l = l.frame.now.room * program_size (program_of l.frame.now.scope.functions) + block_size (block_of l.body.now)
+decreases-blocks::run_block l = l.frame.now.room * program_size (program_of l.frame.now.scope.functions) + (block_size (block_of l.body.now) + 1)
+
+abbrev pub decreases-blocks::run_lines : goal.decreases-blocks::run_lines
+decreases-blocks::run_lines l = l.frame.now.room * program_size (program_of l.frame.now.scope.functions) + block_size (lines_of l.statements.now)
 
 abbrev pub decreases-blocks::run_statement : goal.decreases-blocks::run_statement
 decreases-blocks::run_statement l = l.frame.now.room * program_size (program_of l.frame.now.scope.functions) + (statement_size (statement_of l.form.now) + 5)
@@ -89,31 +92,31 @@ abbrev pub decreases-simple::evaluate_each : goal.decreases-simple::evaluate_eac
 decreases-simple::evaluate_each l = l.frame.now.room * program_size (program_of l.frame.now.scope.functions) + (expressions_size (map expression_of l.elements.now) + 1)
 
 abbrev pub decreases-loops::run_while : goal.decreases-loops::run_while
-decreases-loops::run_while l = l.frame.now.room * program_size (program_of l.frame.now.scope.functions) + (expression_size (expression_of l.condition.now) + (block_size (block_of l.body.now) + 2))
+decreases-loops::run_while l = l.frame.now.room * program_size (program_of l.frame.now.scope.functions) + (expression_size (expression_of l.condition.now) + (block_size (block_of l.body.now) + 3))
 
 abbrev pub decreases-loops::run_turn : goal.decreases-loops::run_turn
-decreases-loops::run_turn l = l.frame.now.room * program_size (program_of l.frame.now.scope.functions) + (block_size (block_of l.body.now) + 1)
+decreases-loops::run_turn l = l.frame.now.room * program_size (program_of l.frame.now.scope.functions) + (block_size (block_of l.body.now) + 2)
 
 abbrev pub decreases-loops::run_for_to : goal.decreases-loops::run_for_to
-decreases-loops::run_for_to l = l.frame.now.room * program_size (program_of l.frame.now.scope.functions) + (expression_size (expression_of l.to.now) + (block_size (block_of l.body.now) + 4))
+decreases-loops::run_for_to l = l.frame.now.room * program_size (program_of l.frame.now.scope.functions) + (expression_size (expression_of l.to.now) + (block_size (block_of l.body.now) + 5))
 
 abbrev pub decreases-loops::run_for_from_to : goal.decreases-loops::run_for_from_to
-decreases-loops::run_for_from_to l = l.frame.now.room * program_size (program_of l.frame.now.scope.functions) + (expression_size (expression_of l.from.now) + (expression_size (expression_of l.to.now) + (block_size (block_of l.body.now) + 4)))
+decreases-loops::run_for_from_to l = l.frame.now.room * program_size (program_of l.frame.now.scope.functions) + (expression_size (expression_of l.from.now) + (expression_size (expression_of l.to.now) + (block_size (block_of l.body.now) + 5)))
 
 abbrev pub decreases-loops::run_for : goal.decreases-loops::run_for
-decreases-loops::run_for l = l.frame.now.room * program_size (program_of l.frame.now.scope.functions) + (block_size (block_of l.body.now) + 3)
+decreases-loops::run_for l = l.frame.now.room * program_size (program_of l.frame.now.scope.functions) + (block_size (block_of l.body.now) + 4)
 
 abbrev pub decreases-loops::run_turns : goal.decreases-loops::run_turns
-decreases-loops::run_turns l = l.frame.now.room * program_size (program_of l.frame.now.scope.functions) + (block_size (block_of l.body.now) + 2)
+decreases-loops::run_turns l = l.frame.now.room * program_size (program_of l.frame.now.scope.functions) + (block_size (block_of l.body.now) + 3)
 
 abbrev pub decreases-loops::run_for_turn : goal.decreases-loops::run_for_turn
-decreases-loops::run_for_turn l = l.frame.now.room * program_size (program_of l.frame.now.scope.functions) + (block_size (block_of l.body.now) + 1)
+decreases-loops::run_for_turn l = l.frame.now.room * program_size (program_of l.frame.now.scope.functions) + (block_size (block_of l.body.now) + 2)
 
 abbrev pub decreases-timed::run_parallel : goal.decreases-timed::run_parallel
 decreases-timed::run_parallel l = l.frame.now.room * program_size (program_of l.frame.now.scope.functions) + (block_size (block_of l.body.now) + 1)
 
 abbrev pub decreases-timed::run_recorded : goal.decreases-timed::run_recorded
-decreases-timed::run_recorded l = l.frame.now.room * program_size (program_of l.frame.now.scope.functions) + (block_size (block_of l.body.now) + 1)
+decreases-timed::run_recorded l = l.frame.now.room * program_size (program_of l.frame.now.scope.functions) + (block_size (block_of l.body.now) + 2)
 
 abbrev pub decreases-timed::run_try : goal.decreases-timed::run_try
 decreases-timed::run_try l = l.frame.now.room * program_size (program_of l.frame.now.scope.functions) + (block_size (block_of l.body.now) + (handlers_size (handlers_of l.handlers.now) + 2))
@@ -137,12 +140,12 @@ invariant-simple::evaluate_each-loop-element l =
       small : expressions_size (map expression_of (drop l.element-index l.fn.elements)) ≤ expressions_size (map expression_of l.fn.elements);
     }
 
-abbrev pub invariant-blocks::run_block-loop-statement : goal.invariant-blocks::run_block-loop-statement
-invariant-blocks::run_block-loop-statement l =
+abbrev pub invariant-blocks::run_lines-loop-statement : goal.invariant-blocks::run_lines-loop-statement
+invariant-blocks::run_lines-loop-statement l =
     record {
-      left : block (scope_in l.fn.frame) (calls_in l.fn.frame) (block_of l.fn.body) l.initial.state ≡ block (scope_in l.fn.frame) (calls_in l.fn.frame) (lines_of (drop l.statement-index l.statement-items)) l.state;
-      runnable : IsRunnableBlock (lines_of (drop l.statement-index l.statement-items));
-      small : block_size (lines_of (drop l.statement-index l.statement-items)) ≤ block_size (block_of l.fn.body);
+      left : block (scope_in l.fn.frame) (calls_in l.fn.frame) (lines_of l.fn.statements) l.initial.state ≡ block (scope_in l.fn.frame) (calls_in l.fn.frame) (lines_of (drop l.statement-index l.fn.statements)) l.state;
+      runnable : IsRunnableBlock (lines_of (drop l.statement-index l.fn.statements));
+      small : block_size (lines_of (drop l.statement-index l.fn.statements)) ≤ block_size (lines_of l.fn.statements);
     }
 
 abbrev pub invariant-branches::run_branches-loop-branch : goal.invariant-branches::run_branches-loop-branch
