@@ -63,6 +63,22 @@ USUAL = [
     'set_dataset("total", total)',
 ]
 
+# Four pipelines, and a run in each, which has a kernel, a pause and the kernel again. Which of them goes first decides nothing but
+# the order of lines and the clocks.
+FOUR_PIPELINES = {
+    "pipelines": [{}, {}, {}, {}],
+    "sources": ['def main():\n    delay_mu(1000)\n    ttl0.pulse_mu(100)\n    set_dataset("pulses", 2)\n'],
+    "experiments": [
+        {
+            "source": 0,
+            "prepare": [],
+            "run": [{"kernel": "main", "args": []}, {"pause": True}, {"kernel": "main", "args": []}],
+            "analyze": [],
+        }
+    ],
+    "arrivals": [{"at": 0, "submit": {"experiment": 0, "pipeline": pipeline}} for pipeline in range(4)],
+}
+
 # A command with its input, and whether several workers take turns in it.
 Case = collections.namedtuple("Case", "name argv text takes_turns", defaults=(False,))
 Outcome = collections.namedtuple("Outcome", "status out err")
@@ -103,6 +119,9 @@ def cases():
     for workers in (1, 2, 4):
         text = json.dumps(session | {"workers": workers}).encode()
         yield Case(f"laboratory, two runs, workers {workers}", [LABORATORY], text, workers > 1)
+    for workers in (2, 4, 8):
+        text = json.dumps(FOUR_PIPELINES | {"workers": workers}).encode()
+        yield Case(f"laboratory, four pipelines, workers {workers}", [LABORATORY], text, True)
 
 
 def run(case, library, at, on):

@@ -10,8 +10,8 @@ use std::sync::atomic::{AtomicBool, AtomicU64, Ordering};
 use std::test::Fail;
 use std::thread::{self, Threads};
 
-// Calls the program on a session, asserts that it answers 0 and writes nothing to err, and gives what out holds.
-fn report_of<R: Abort + Threads + Wait + Sync, G: Gate + Sync>(
+/// Calls the program on a session, asserts that it answers 0 and writes nothing to err, and gives what out holds.
+pub fn report_of<R: Abort + Threads + Wait + Sync, G: Gate + Sync>(
     rt: &R,
     alloc: Global,
     json: &str,
@@ -39,9 +39,11 @@ const END_OF_TWO: &str = "run 0 done\nrun 1 done
 core 0\nout 1000 0 0 1\nout 1100 0 0 0\ncursor 1100\ncounter 1096
 core 1\nout 1000 0 0 1\nout 1100 0 0 0\ncursor 1100\ncounter 1096\nend\n";
 
-const MOST_TURNS: u32 = 50_000_000;
+/// How long a worker is kept at most, in turns.
+pub const MOST_TURNS: u32 = 50_000_000;
 
-const NOBODY: u64 = u64::MAX;
+/// In place of a number of a worker or of a run.
+pub const NOBODY: u64 = u64::MAX;
 
 // Keeps the worker that is about to compile for run 0 until another has ended a kernel of run 1, and tells whether they met.
 #[derive(Drop)]

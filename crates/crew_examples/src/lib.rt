@@ -1,5 +1,5 @@
-//! Workers of a laboratory: that several run at once, what one prepares, and where it passes the gate. The crate has tests alone; that a
-//! session has one report whoever serves it is shown by `program_rows`.
+//! Workers of a laboratory: that several run at once, what they do while one is kept standing, what one prepares, and where it passes the
+//! gate. The crate has tests alone; that a session has one report whoever serves it is shown by `program_rows`.
 #![tactic(auto)]
 
 #[cfg(test)]
@@ -10,3 +10,5 @@ mod crews;
 mod kits;
 #[cfg(test)]
 mod sessions;
+#[cfg(test)]
+mod standing;
