@@ -270,7 +270,7 @@ class Checker:
             self.expect("docs/RECIPES.md", "bare 8s", found, int(times))
         command = page.partition("## A new command")[2].partition("\n## ")[0]
         usage = re.search(r'b"(usage: artiq_sim [^"\\]*)', (ROOT / "crates/sim_program/src/top.rt").read_text())
-        places = ("crates/*/src/*.rt", "crates/*/specs/*.antt", "crates/*/data/*.rows", "crates/*/stdout", "docs/*.md", "bench/*.py")
+        places = ("crates/*/src/*.rt", "crates/*/specs/*.antt", "crates/*/data/**/*.rows", "crates/*/stdout", "docs/*.md", "bench/*.py")
         for path in sorted(path for place in places for path in ROOT.glob(place)):
             if usage and usage[1] in path.read_text():
                 name = str(path.relative_to(ROOT)).removeprefix("crates/")

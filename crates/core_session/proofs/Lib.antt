@@ -1,10 +1,10 @@
-mod AtTop
-mod Histories
+pub mod AtTop
+pub mod Histories
+pub mod Lent
 mod Scripted
-mod Stopping
-mod Processing
-mod Turning
-mod Ending
+mod Once
+mod Steps
+mod Pacing
 mod Whole
 mod LockstepLaw
 mod Existing

@@ -25,7 +25,7 @@ use Rattle.run_schedule.specs.Schedules.{ScheduleState, Lockstep}
 use Rattle.core_session.specs.Scripts.{Next, Asks, Ends}
 use Rattle.core_session.specs.Sessions.{entry_of}
 use Rattle.core_session.specs.Lockstep.{AreAtTop, EndsAtTop, IsAtTop, GrowsAtTop}
-use Rattle.core_session.specs.Standing.{playing}
+use Rattle.core_session.specs.Stepping.{playing}
 use Rattle.core_session.specs.Timed.{Playing, IsTimed, as_waiting, begun, played, played_steps, processed, replied, session_replies, stepped, ticked, waits, waits_for}
 use Rattle.core_session.proofs.AtTop.{at-top-push, decided-at-top}
 

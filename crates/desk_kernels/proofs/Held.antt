@@ -18,8 +18,8 @@ use Rattle.desk.specs.Seated.{Opened, Puts, holding, losing}
 use Rattle.desk.proofs.Afterwards.{grew_held}
 use Rattle.desk_rule.specs.Histories.{acts_of, entries_by, Grew}
 use Rattle.desk_rule.proofs.Prefixes.{acts_of-append, acts_of-own, prefix_same, prefix_trans}
-use Rattle.lab_kernels.specs.declared.turn.Turn.{Turn}
-use Rattle.lab_kernels.specs.declared.turn.Turn.TheVariants.{Replied, Again, Over}
+use Rattle.core_session.specs.declared.turn.Turn.{Turn}
+use Rattle.core_session.specs.declared.turn.Turn.TheVariants.{Replied, Again, Over}
 use Rattle.desk_kernels.specs.declared.starting.Opening.{Opening}
 use Rattle.desk_kernels.specs.declared.starting.Opening.TheVariants.{Begun, Busy}
 use Rattle.desk_kernels.specs.Chairs.{CoreChair, IsAt, core_entries}

@@ -1,6 +1,6 @@
 pub mod Alone
 pub mod Seen
-pub mod Held
-pub mod Turned
-pub mod Leading
-pub mod Played
+mod Held
+mod Turned
+mod Lending
+mod Played

@@ -1,27 +1,27 @@
--- A session that is played to its end at a desk.
+-- A session that was run at a desk.
 use Rattle.std.proofs.Common.{◌≡◌, ℕ, List, [], ◌∷◌, ◌++◌, inl, inr, refl, sym, ap, subst, ◌∙◌, append_assoc}
-use Rattle.std.specs.Prelude.{ℤ, Option, Some, None, Result, Ok, Err, IfOk, FitsSigned}
-use Rattle.std.specs.Int.{w64}
+use Rattle.std.specs.Prelude.{◌⊎◌, ℤ, None, Result, Ok, Err, IfOk}
 use mathlib.Core.List.{IsPrefix}
 use Rattle.rtio_types.specs.declared.outcome.Outcome.{Outcome}
+use Rattle.rtio_types.specs.declared.outcome.Outcome.TheVariants as outcome
+use Rattle.rtio_types.specs.declared.request.Request.{Request}
 use Rattle.rtio_core.specs.declared.data.Act.{Act}
 use Rattle.rtio_core.specs.declared.data.Act.TheVariants.{End}
 use Rattle.rtio_core.specs.declared.data.Config.{Config}
 use Rattle.rtio_core.specs.declared.data.Entry.{Entry}
 use Rattle.rtio_core.specs.declared.data.StartOf.{StartOf}
 use Rattle.rtio_core.specs.Booked.{booked_acts}
-use Rattle.rtio_core.specs.Calls.{started}
 use Rattle.rtio_core.specs.Core.{CoreState}
 use Rattle.rtio_core.specs.Entries.{last_cursor}
 use Rattle.sched_state.specs.declared.entry.DataSet.{DataSet}
 use Rattle.sched_state.specs.declared.entry.KernelResult.{KernelResult}
 use Rattle.desk.specs.Seated.{Opened}
 use Rattle.desk_rule.specs.Histories.{acts_of}
-use Rattle.desk_rule.proofs.Prefixes.{acts_of-append}
+use Rattle.desk_rule.proofs.Prefixes.{acts_of-append, prefix_same}
 use Rattle.core_isa.specs.declared.code.Code.{Code}
-use Rattle.core_cpu.specs.Moments.{Moment}
-use Rattle.core_session.specs.Sessions.{Answered, entry_of, requests_of}
-use Rattle.core_session.specs.Standing.{Session}
+use Rattle.core_session.specs.Asking.{CodeAsks}
+use Rattle.core_session.specs.Lending.{EndsBy, HasRun, IsLeft, LeavesSession, Opening, began, start_of}
+use Rattle.core_session.specs.Sessions.{Account, Answered, account_of, entry_of, requests_of}
 use Rattle.kern_syntax.specs.Tree.{ProgramTree}
 use Rattle.lab_kernels.specs.CutShort.{CutsCode}
 use Rattle.lab_kernels.specs.DoesAs.{DoesAs}
@@ -29,136 +29,154 @@ use Rattle.lab_kernels.specs.Kernels.{AreAskedAtTop, KernelRun, session_entries,
 use Rattle.lab_kernels.specs.Meanings.{LeavesKernel}
 use Rattle.lab_kernels.specs.Meant.{TakesArguments}
 use Rattle.lab_kernels.specs.Runs.{RunsCode}
-use Rattle.lab_kernels.specs.Standing.{Begins, HasLeft, HasUnderWay, IsUnderWay, LeadsTo, entries_so_far}
+use Rattle.lab_kernels.specs.Standing.{entries_so_far}
 use Rattle.lab_kernels.proofs.Meanings.{RunsAreMeant, kernel_left, means_program}
-use Rattle.lab_kernels.proofs.Playing.{Leads, SoFar, so-far-left, so-far-open}
-use Rattle.lab_kernels.proofs.Steps.{left-still}
-use Rattle.lab_kernels.proofs.Whole.{IsBooted, begins, cut-at-start, cut-later, session_of}
-use Rattle.desk_kernels.specs.Chairs.{CoreChair, KnowsItsOwn, core_entries}
-use Rattle.desk_kernels.specs.Holdings.{GoesOn, HasStarted, core_as_seen}
+use Rattle.lab_kernels.proofs.Whole.{IsClosedOn, closed-history, closed-on, cut-open, cuts-code, given-up-closed, run_of, runs-code}
+use Rattle.desk_kernels.specs.Chairs.{CoreChair, IsAt, IsSameChair, KnowsItsOwn, core_entries}
+use Rattle.desk_kernels.specs.Holdings.{GoesOn, core_as_seen}
 use Rattle.desk_kernels.specs.Kernels.{LeavesKernelAt, RunsKernelAt}
-use Rattle.desk_kernels.specs.Sessions.{HasClosedAt, HasPlayedAt, LeadsAt, LeavesCodeAt, RunsCodeAt}
-use Rattle.desk_kernels.proofs.Held.{goes-none}
+use Rattle.desk_kernels.specs.Sessions.{HasEndedAt, HasFound, HasGivenUpAt, IsOpenAt, IsSeenOpen, IsUnstarted, LeavesCodeAt, RunsCodeAt, Seat}
 use Rattle.desk_kernels.proofs.Seen.{booked-append, booked-entries}
-use Rattle.desk_kernels.proofs.Turned.{as-seen-same, started-at}
 
--- what a step leads to, in each session that was under way
-abbrev pub LeadsOn : Config → (old : CoreChair) → Moment → List DataSet → (new : CoreChair) → Moment → List DataSet → Option Outcome → Type 0
-LeadsOn config old was sets new now more end =
-    (s : Session) (asked : List Answered) → IsUnderWay old.number s asked (core_as_seen config old) was sets → LeadsAt config s asked new now more end
+-- ---- the session's end
 
--- the next step is one of the chair's number
-pub leads-on : (desk : Opened Config) (first old new : CoreChair) (was now : Moment) (sets more : List DataSet) → GoesOn desk first old → GoesOn desk old new → LeadsOn desk.fixed old was sets new now more None
-    → Leads first.number (core_as_seen desk.fixed old) was sets (core_as_seen desk.fixed new) now more None
-leads-on desk first old new was now sets more before goes leads = λ s asked way.
-    subst (λ (n : ℕ). LeadsTo n s asked (core_as_seen desk.fixed new) now more None) (goes.number ∙ before.number)
-    (leads s asked (subst (λ (n : ℕ). IsUnderWay n s asked (core_as_seen desk.fixed old) was sets) (sym before.number) way))
+record IsClosedAt (desk : Opened Config) (o : Opening Seat) (asked : List Answered) (a : Account) (how : Outcome) (end : ℤ) (now : Seat) : Type 0 where
+  pub was : CoreState
+  pub found : HasFound desk o.first.0 was now.0
+  pub at : ℕ
+  pub on : IsClosedOn o.first.0.number was o.of o.cursor asked a how end (core_entries now.0.seen) at
+  pub sets : now.1.items ≡ sets_of (requests_of asked)
 
-module _ (desk : Opened Config) (first : CoreChair) (was : Moment) (none : List DataSet) (c : CoreChair) (now : Moment) (sets : List DataSet)
-    (so : SoFar first.number (core_as_seen desk.fixed first) was none (core_as_seen desk.fixed c) now sets) (goes : GoesOn desk first c) where
-  pub under-way-at : HasUnderWay c.number (core_as_seen desk.fixed c) now sets
-  under-way-at =
-      subst (λ (n : ℕ). HasUnderWay n (core_as_seen desk.fixed c) now sets) (sym goes.number)
-      (so-far-open first.number (core_as_seen desk.fixed first) was none (core_as_seen desk.fixed c) now sets so)
+closed-at : (desk : Opened Config) (o : Opening Seat) (asked : List Answered) (a : Account) (how : Outcome) (end : ℤ) (now : Seat) → EndsBy (HasEndedAt desk) (HasGivenUpAt desk) o asked a how end now → IsClosedAt desk o asked a how end now
+closed-at desk o asked a outcome.Horizon end now (none, same, (last, requests, up)) = record {
+  was = up.was;
+  found = up.found;
+  at = up.at;
+  on = given-up-closed o.first.0.number up.was o.of o.cursor asked a end (core_entries now.0.seen) up.at last up.ended none same requests;
+  sets = up.sets;
+}
+closed-at desk o asked a outcome.Returned end now (is, same, requests, over) = record {
+  was = over.was;
+  found = over.found;
+  at = over.at;
+  on = closed-on o.first.0.number over.was o.of o.cursor asked a end (core_entries now.0.seen) over.at outcome.Returned over.ended tt (is, same, requests);
+  sets = over.sets;
+}
+closed-at desk o asked a (outcome.Raised x) end now (is, same, requests, over) = record {
+  was = over.was;
+  found = over.found;
+  at = over.at;
+  on = closed-on o.first.0.number over.was o.of o.cursor asked a end (core_entries now.0.seen) over.at (outcome.Raised x) over.ended tt (is, same, requests);
+  sets = over.sets;
+}
+closed-at desk o asked a outcome.Budget end now (is, same, requests, over) = record {
+  was = over.was;
+  found = over.found;
+  at = over.at;
+  on = closed-on o.first.0.number over.was o.of o.cursor asked a end (core_entries now.0.seen) over.at outcome.Budget over.ended tt (is, same, requests);
+  sets = over.sets;
+}
 
-  pub played-last : (new : CoreChair) (next : Moment) (more : List DataSet) (how : Outcome) → LeadsOn desk.fixed c now sets new next more (Some how)
-      → (s : Session) → Begins first.number s (core_as_seen desk.fixed first) was none → HasPlayedAt s new next more how
-  played-last new next more how leads s b =
-      let a = so.along s b in
-      (a.0, leads s a.0 (subst (λ (n : ℕ). IsUnderWay n s a.0 (core_as_seen desk.fixed c) now sets) (sym goes.number) a.1))
+module _ (desk : Opened Config) (code : Code) (of : StartOf) (units : ℕ) (old new : Seat) where
+  module _ (how : Outcome) (steps : ℕ) (ran : HasRun (HasEndedAt desk) (HasGivenUpAt desk) code units of old new how steps) where
+    abbrev o : Opening Seat
+    o = began old of ran.cursor
 
-  -- without memory, where the chair has seen nothing new
-  pub played-left : (new : CoreChair) → new.seen ≡ c.seen → (s : Session) → Begins first.number s (core_as_seen desk.fixed first) was none → HasLeft first.number s (core_as_seen desk.fixed new)
-  played-left new same =
-      so-far-left first.number (core_as_seen desk.fixed first) was none (core_as_seen desk.fixed c) now sets so (core_as_seen desk.fixed new)
-      (λ s asked way.
-      left-still first.number s asked (core_as_seen desk.fixed c) (core_as_seen desk.fixed new) sets goes.ready.fitting way.entries (as-seen-same desk.fixed c new same))
+    abbrev a : Account
+    a = account_of ran.closed.ran
 
--- a session that began on the core that the chair found, as it is told
-abbrev run_at : (of : StartOf) (was : CoreState) (asked : List Answered) (how : Outcome) (cursor : ℤ) (at : ℕ) (now : Moment) → KernelRun
-run_at of was asked how cursor at now = record { of = of; started = was.counter; asked = asked; how = how; cursor = cursor; ended = at; steps = now.machine.steps }
+    closed : IsClosedAt desk o ran.asked a how ran.closed.cursor new
+    closed = closed-at desk o ran.asked a how ran.closed.cursor new ran.closed.ends
 
-module _ (desk : Opened Config) (code : Code) (of : StartOf) (units : ℕ) (old mid : CoreChair) (cursor : ℤ) (begun : HasStarted desk old of cursor mid) where
-  of-number : mid.number ≡ old.number
-  of-number = begun.holds.goes.number
+    pub goes-ran : GoesOn desk old.0 new.0
+    goes-ran = closed.found.goes
 
-  -- it begins as a session of the chair
-  as-started : core_as_seen desk.fixed mid ≡ started begun.was old.number of (last_cursor begun.was.history)
-  as-started =
-      started-at desk old mid begun.was begun.now begun.holds of cursor begun.leaves ∙ ap (λ (z : ℤ). started begun.was old.number of z) begun.from
-
-  pub begins-at : (cpu : Moment) (none : List DataSet) → IsBooted code of units begun.was cpu → none ≡ [] → Begins mid.number (session_of code of units begun.was) (core_as_seen desk.fixed mid) cpu none
-  begins-at cpu none booted nothing =
-      subst (λ (n : ℕ). Begins n (session_of code of units begun.was) (core_as_seen desk.fixed mid) cpu none) (sym of-number)
-      (begins old.number code of units begun.was (core_as_seen desk.fixed mid) cpu none as-started booted nothing)
-
-  -- without memory it stays open
-  stays-open : (new : CoreChair) → GoesOn desk mid new → CutsCode code units old.number of begun.was (core_as_seen desk.fixed new)
-      → LeavesCodeAt code units of desk.fixed old new
-  stays-open new goes cut = inr (record {
-    was = begun.was;
-    found = begun.holds.found;
-    known = begun.holds.own;
-    changes = cut;
-    knows = goes.ready.knows;
-  })
-
-  pub left-at-start : FitsSigned w64 (last_cursor begun.was.history) → LeavesCodeAt code units of desk.fixed old mid
-  left-at-start from =
-      stays-open mid (goes-none desk mid begun.holds.goes.ready)
-      (cut-at-start old.number code of units begun.was (core_as_seen desk.fixed mid) as-started from)
-
-  pub left-later : (new : CoreChair) → GoesOn desk mid new → (cpu : Moment) (none : List DataSet) → IsBooted code of units begun.was cpu → none ≡ []
-      → ((s : Session) → Begins mid.number s (core_as_seen desk.fixed mid) cpu none → HasLeft mid.number s (core_as_seen desk.fixed new))
-      → LeavesCodeAt code units of desk.fixed old new
-  left-later new goes cpu none booted nothing leaves =
-      let L : ℕ → Type 0 = λ n. (s : Session) → Begins n s (core_as_seen desk.fixed mid) cpu none → HasLeft n s (core_as_seen desk.fixed new) in
-      stays-open new goes
-      (cut-later old.number code of units begun.was (core_as_seen desk.fixed mid) as-started cpu none (core_as_seen desk.fixed new) booted nothing
-      (subst L of-number leaves))
-
-  module _ (new : CoreChair) (goes : GoesOn desk mid new) (now : Moment) (sets : List DataSet) (how : Outcome) (played : HasPlayedAt (session_of code of units begun.was) new now sets how) where
-    closed : HasClosedAt old.number (session_of code of units begun.was) played.0 (core_entries new.seen) now sets how
-    closed = subst (λ (n : ℕ). HasClosedAt n (session_of code of units begun.was) played.0 (core_entries new.seen) now sets how) (goes.number ∙ of-number) played.1
+    on : IsClosedOn old.0.number closed.was of (last_cursor closed.was.history) ran.asked a how ran.closed.cursor (core_entries new.0.seen) closed.at
+    on = closed-history old.0.number closed.was of ran.cursor ran.asked a how ran.closed.cursor (core_entries new.0.seen) closed.at closed.on
 
     abbrev k : KernelRun
-    k = run_at of begun.was played.0 how closed.cursor closed.at now
+    k = run_of of closed.was ran.asked how ran.closed.cursor closed.at steps
 
-    seen : new.seen ≡ booked_acts (begun.was.history ++ session_entries old.number begun.was.history k)
+    seen : new.0.seen ≡ booked_acts (closed.was.history ++ session_entries old.0.number closed.was.history k)
     seen =
-        let last : Entry = entry_of old.number (End how closed.cursor closed.at) in
-        sym (booked-entries new.seen)
-        ∙ ap booked_acts (closed.history ∙ append_assoc begun.was.history (entries_so_far old.number (session_of code of units begun.was) played.0) (last ∷ []))
+        let last : Entry = entry_of old.0.number (End how ran.closed.cursor closed.at) in
+        sym (booked-entries new.0.seen)
+        ∙ ap booked_acts (on.history ∙ append_assoc closed.was.history (entries_so_far old.0.number closed.was of (last_cursor closed.was.history) ran.asked) (last ∷ []))
 
-    own : new.own ≡ old.own ++ acts_of old.number (booked_acts (session_entries old.number begun.was.history k))
+    own : new.0.own ≡ old.0.own ++ acts_of old.0.number (booked_acts (session_entries old.0.number closed.was.history k))
     own =
-        sym goes.ready.knows
-        ∙ (λ i. acts_of ((goes.number ∙ of-number) i) (seen i))
-        ∙ ap (acts_of old.number) (booked-append begun.was.history (session_entries old.number begun.was.history k))
-        ∙ acts_of-append old.number (booked_acts begun.was.history) (booked_acts (session_entries old.number begun.was.history k))
-        ∙ ap (λ (l : List Act). l ++ acts_of old.number (booked_acts (session_entries old.number begun.was.history k))) begun.holds.own
+        sym goes-ran.ready.knows
+        ∙ (λ i. acts_of (goes-ran.number i) (seen i))
+        ∙ ap (acts_of old.0.number) (booked-append closed.was.history (session_entries old.0.number closed.was.history k))
+        ∙ acts_of-append old.0.number (booked_acts closed.was.history) (booked_acts (session_entries old.0.number closed.was.history k))
+        ∙ ap (λ (l : List Act). l ++ acts_of old.0.number (booked_acts (session_entries old.0.number closed.was.history k))) closed.found.own
 
-    pub ran-at : (steps : ℕ) (cpu : Moment) → IsBooted code of units begun.was cpu → steps ≡ now.machine.steps → RunsCodeAt code units of desk.fixed old new (record { outcome = how; sets = sets; steps = steps })
-    ran-at steps cpu booted counts = record {
-      before = begun.was.history;
+    pub ran-at : RunsCodeAt code units of desk.fixed old.0 new.0 (record { outcome = how; sets = new.1.items; steps = steps })
+    ran-at = record {
+      before = closed.was.history;
       k = k;
-      found = begun.holds.found;
-      known = begun.holds.own;
+      found = closed.found.found;
+      known = closed.found.own;
       seen = seen;
       own = own;
       of_is = refl;
-      at_top = subst (λ (c : Config). AreAskedAtTop c begun.was.history (session_entries old.number begun.was.history k)) begun.holds.config closed.at_top;
-      runs = subst (λ (c : Config). RunsCode code units old.number c begun.was.history k) begun.holds.config (record {
-        ran = closed.ran;
-        runs = closed.runs;
-        ends = closed.ends;
-        counted = closed.count;
-        fit = closed.fit;
-        numbers = closed.numbers;
-        from = booted.from;
-      });
-      told = ap (λ (l : List DataSet). record { outcome = how; sets = l; steps = steps }) closed.sets_are ∙ ap (λ (n : ℕ). record { outcome = how; sets = sets_of (requests_of played.0); steps = n }) counts;
+      at_top = subst (λ (c : Config). AreAskedAtTop c closed.was.history (session_entries old.0.number closed.was.history k)) closed.found.config on.at_top;
+      runs = subst (λ (c : Config). RunsCode code units old.0.number c closed.was.history k) closed.found.config
+          (runs-code (HasEndedAt desk) (HasGivenUpAt desk) old.0.number closed.was code units o ran.asked new how steps (core_entries new.0.seen) closed.at ran.closed closed.on);
+      told = ap (λ (l : List DataSet). record { outcome = how; sets = l; steps = steps }) closed.sets;
     }
+
+  -- ---- without memory
+
+  -- how the loop leaves it
+  abbrev pub IsLeftSo : Type 0
+  IsLeftSo = LeavesSession (IsOpenAt desk) (IsOpenAt desk) (λ o asked request now. IsSeenOpen desk o asked now.0) (IsUnstarted desk) code units of old new
+
+  -- the session that the chair has seen stays open
+  stays-open : (cursor : ℤ) (asked : List Answered) → IsLeft (IsOpenAt desk) (IsOpenAt desk) (λ o asked request now. IsSeenOpen desk o asked now.0) (record { code = code; units = units; opening = began old of cursor }) asked new
+      → IsSeenOpen desk (began old of cursor) asked new.0
+  stays-open cursor asked left = by-kind left.stands
+    where
+      by-kind : IsOpenAt desk (began old of cursor) asked new ⊎ (IsOpenAt desk (began old of cursor) asked new ⊎ ((request : Request) × CodeAsks code (start_of units (began old of cursor)) asked request × IsSeenOpen desk (began old of cursor) asked new.0))
+          → IsSeenOpen desk (began old of cursor) asked new.0
+      by-kind (inl is) = is.0
+      by-kind (inr (inl is)) = is.0
+      by-kind (inr (inr (request, asks, is))) = is
+
+  pub left-at : IsLeftSo → LeavesCodeAt code units of desk.fixed old.0 new.0
+  left-at (inl same) = inl (ap (λ (m : Seat). m.0.own) same)
+  left-at (inr (inl unstarted)) = inl unstarted.0
+  left-at (inr (inr (cursor, asked, left))) =
+      let is : IsSeenOpen desk (began old of cursor) asked new.0 = stays-open cursor asked left in
+      inr (record {
+        was = is.was;
+        found = is.found.found;
+        known = is.found.own;
+        changes =
+            cuts-code code units old.0.number of is.was cursor asked (core_as_seen desk.fixed new.0) is.on.from
+            (cut-open code units old.0.number of is.was cursor asked (core_as_seen desk.fixed new.0) left.run is.on);
+        knows = is.found.goes.ready.knows;
+      })
+
+  pub goes-left : IsLeftSo → (new.0 ≡ old.0) ⊎ GoesOn desk old.0 new.0
+  goes-left (inl same) = inl (ap (λ (m : Seat). m.0) same)
+  goes-left (inr (inl unstarted)) = inr unstarted.1
+  goes-left (inr (inr (cursor, asked, left))) = inr (stays-open cursor asked left).found.goes
+
+-- ---- the chair
+
+module _ (desk : Opened Config) (old new : CoreChair) (at : IsAt desk old) where
+  pub same-goes : (new ≡ old) ⊎ GoesOn desk old new → IsSameChair old new
+  same-goes (inl same) = (ap (λ (c : CoreChair). c.desk) same, ap (λ (c : CoreChair). c.number) same, ap (λ (c : CoreChair). c.holds) same ∙ at.1)
+  same-goes (inr goes) = (goes.ready.at.0 ∙ sym at.0, goes.number, goes.ready.at.1)
+
+  pub later-goes : (new ≡ old) ⊎ GoesOn desk old new → IsPrefix old.seen new.seen
+  later-goes (inl same) = subst (λ (c : CoreChair). IsPrefix old.seen c.seen) (sym same) (prefix_same old.seen)
+  later-goes (inr goes) = goes.later
+
+  pub knows-goes : (new ≡ old) ⊎ GoesOn desk old new → KnowsItsOwn old → KnowsItsOwn new
+  knows-goes (inl same) knows = subst KnowsItsOwn (sym same) knows
+  knows-goes (inr goes) knows = goes.ready.knows
 
 -- a session of code that does what a program does is one of the program's meaning
 pub kernel-at : {E : Type 0} (program : ProgramTree) (code : Code) → DoesAs program code → RunsAreMeant program code → (units : ℕ) (of : StartOf) (config : Config) (old new : CoreChair) (result : Result KernelResult E)

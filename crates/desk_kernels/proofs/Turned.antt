@@ -18,8 +18,8 @@ use Rattle.rtio_core.specs.Reply.{reply_to}
 use Rattle.rtio_core.specs.Top.{top}
 use Rattle.desk.specs.Seated.{Opened}
 use Rattle.core_session.specs.Sessions.{entry_of}
-use Rattle.lab_kernels.specs.declared.turn.Turn.{Turn}
-use Rattle.lab_kernels.specs.declared.turn.Turn.TheVariants.{Replied, Again, Over}
+use Rattle.core_session.specs.declared.turn.Turn.{Turn}
+use Rattle.core_session.specs.declared.turn.Turn.TheVariants.{Replied, Again, Over}
 use Rattle.lab_kernels.specs.Decided.{IsAnswered, IsNeverAnswered}
 use Rattle.lab_kernels.proofs.Histories.{last-at-push}
 use Rattle.desk_kernels.specs.Chairs.{CoreChair, core_entries}

@@ -16,8 +16,8 @@ use Rattle.rtio_core.specs.Lawful.{AreFitting}
 use Rattle.desk.specs.Seated.{Opened}
 use Rattle.desk_rule.specs.Histories.{acts_of}
 use Rattle.core_session.specs.Sessions.{entry_of}
-use Rattle.lab_kernels.specs.declared.turn.Turn.{Turn}
-use Rattle.lab_kernels.specs.declared.turn.Turn.TheVariants.{Replied, Again, Over}
+use Rattle.core_session.specs.declared.turn.Turn.{Turn}
+use Rattle.core_session.specs.declared.turn.Turn.TheVariants.{Replied, Again, Over}
 use Rattle.lab_kernels.specs.Decided.{IsAnswered, IsLater, IsNeverAnswered}
 use Rattle.desk_kernels.specs.Chairs.{CoreChair, IsAt, KnowsItsOwn, core_entries}
 use Rattle.desk_kernels.specs.declared.starting.Opening.{Opening}

@@ -7,8 +7,9 @@ ghost use Rattle.rtio_core.specs.Lawful.{IsOpenFor};
 ghost use Rattle.desk_kernels.specs.Chairs.{core_entries};
 ghost use Rattle.desk_kernels.specs.Holdings.{GoesOn, IsDecidedAt, IsHeldTurn, IsReady, IsTurnAt, IsTurnOrEnd};
 
+use core_session::Turn;
 use desk::{Chair, Desk};
-use lab_kernels::{Turn, ask_stopped};
+use lab_kernels::ask_stopped;
 use rtio_core::Core;
 use rtio_types::{Outcome, Reply, Request};
 use std::alloc::{AllocError, Global};

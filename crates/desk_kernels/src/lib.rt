@@ -3,12 +3,12 @@
 #![tactic(auto)]
 
 mod asking;
+mod at_desk;
 mod ending;
 mod kernel;
 mod law;
 mod running;
 mod starting;
-mod steps;
 
 pub use kernel::run_kernel_at;
 pub use law::{open_sessions_are_alone, open_sessions_were_open_before};

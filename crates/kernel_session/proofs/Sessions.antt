@@ -13,7 +13,7 @@ use Rattle.kern_syntax.specs.Tree.{ProgramTree}
 use Rattle.code_replies.specs.DoesAs.{DoesAs}
 use Rattle.code_replies.specs.Laws.{RunsAreMeant}
 use Rattle.run_schedule.specs.Schedules.{ScheduleState}
-use Rattle.core_session.specs.declared.running.Ran.{Ran as Told}
+use Rattle.core_session.specs.declared.lending.Ran.{Ran as Told}
 use Rattle.core_session.specs.declared.running.SessionEnd.{SessionEnd}
 use Rattle.core_session.specs.declared.running.SessionEnd.TheVariants as E
 use Rattle.core_session.specs.Scripts.{IsScriptOf, Next}

@@ -10,7 +10,7 @@ use Rattle.rtio_core.specs.Calls.{NoOtherWaits, answered}
 use Rattle.rtio_core.specs.Lawful.{IsOpenFor}
 use Rattle.rtio_core.specs.Reply.{reply_to}
 use Rattle.rtio_core.specs.Top.{top}
-use Rattle.lab_kernels.specs.declared.turn.Turn.TheVariants.{Replied, Again, Over}
+use Rattle.core_session.specs.declared.turn.Turn.TheVariants.{Replied, Again, Over}
 use Rattle.lab_kernels.specs.Decided.{IsAnswered, IsHeldUp, IsLater, IsNeverAnswered, WaitsFor}
 use Rattle.lab_kernels.specs.Turns.{BeginsToWait, IsReplied, IsTurn, IsUndecided, ticked_on, waits_with}
 use Rattle.lab_kernels.proofs.Later.{later-on, later-same}

@@ -1,9 +1,8 @@
-mod AtTop
 pub mod Turned
 mod Later
 mod Deciding
 pub mod Histories
-pub mod Steps
-pub mod Playing
+pub mod Standing
+mod Owning
 pub mod Whole
 pub mod Meanings

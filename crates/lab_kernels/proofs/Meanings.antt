@@ -1,7 +1,6 @@
 -- A session of code that does what a program does is one of the program's meaning.
-use Rattle.std.proofs.Common.{◌≡◌, ℕ, zero, suc, List, [], ◌∷◌, ◌++◌, inl, inr, sym, ap, subst, append_assoc, append-nil}
-use Rattle.std.proofs.lemmas.Bool.{false≢true}
-use Rattle.std.specs.Prelude.{Result, Ok, Err, IfOk, FitsSigned, is_some}
+use Rattle.std.proofs.Common.{◌≡◌, ℕ, List, [], ◌∷◌, ◌++◌, inl, inr, sym, ap, subst}
+use Rattle.std.specs.Prelude.{Result, Ok, Err, IfOk, FitsSigned}
 use Rattle.std.specs.Int.{w64}
 use Rattle.rtio_types.specs.declared.request.Request.{Request}
 use Rattle.rtio_core.specs.declared.data.Config.{Config}
@@ -15,12 +14,13 @@ use Rattle.kern_syntax.specs.Tree.{ProgramTree}
 use Rattle.core_cpu.specs.Standing.{Start as Beginning}
 use Rattle.core_session.specs.Scripts.{HaveNumbers}
 use Rattle.core_session.specs.Sessions.{Account, Answered, EndsAs, account_of, beginning_of, replies_of, requests_of}
+use Rattle.core_session.proofs.Histories.{all-asked, front-fits, front-numbers, last-asked}
 use Rattle.kernel_session.specs.DoesAs.{DoesAs}
 use Rattle.kernel_session.specs.Meant.{TakesArguments, account_of_meaning, meant}
 pub use Rattle.kernel_session.proofs.Meant.{RunsAreMeant, has_entry}
 use Rattle.kernel_session.proofs.Meant.{same_account}
 use Rattle.kernel_session.proofs.Playbacks.{plays_recordings}
-use Rattle.lab_kernels.specs.CutShort.{AreAsked, CodeAsks, IsStopped, LacksReply, LeavesCode}
+use Rattle.lab_kernels.specs.CutShort.{CodeAsks, IsStopped, LacksReply, LeavesCode}
 use Rattle.lab_kernels.specs.Kernels.{KernelRun, entries_until_end}
 use Rattle.lab_kernels.specs.Meanings.{LeavesKernel, MeansProgram, ProgramAsks, RunsKernel, beginning_behind}
 use Rattle.lab_kernels.specs.Runs.{HasRun, RunsCode}
@@ -68,52 +68,20 @@ kernel_ok program code does agrees units chair of old new (Err e) takes ran = tt
 
 -- ---- without memory
 
--- what was replied to the first requests fits them, and the next one too, which has no reply
-front_fits : (front more : List Answered) (rest : List Request) → RepliesFit (requests_of (front ++ more)) (replies_of (front ++ more)) → RepliesFit (requests_of front ++ rest) (replies_of front)
-front_fits [] more rest fit k request reply found answer = absurd (false≢true (ap is_some answer))
-front_fits (a ∷ front) more rest fit zero request reply found answer = fit zero request reply found answer
-front_fits (a ∷ front) more rest fit (suc k) request reply found answer =
-    front_fits front more rest (λ n q r f g. fit (suc n) q r f g) k request reply found answer
-
-front_numbers : (front more : List Answered) → HaveNumbers (replies_of (front ++ more)) → HaveNumbers (replies_of front)
-front_numbers [] more have = tt
-front_numbers (a ∷ front) more have = (have.0, front_numbers front more have.1)
-
 module _ (program : ProgramTree) (code : Code) (agrees : RunsAreMeant program code) (start : Beginning) (takes : TakesArguments program start.function start.args) (from : FitsSigned w64 start.cursor) where
   -- what the code asks next is what the meaning asks next
   program_asks : (front more : List Answered) (request : Request) → RepliesFit (requests_of (front ++ more)) (replies_of (front ++ more)) → HaveNumbers (replies_of (front ++ more))
       → CodeAsks code start front request → ProgramAsks program start front request
   program_asks front more request fit numbers c =
       let fits : RepliesFit c.ran.requests (replies_of front) =
-      subst (λ (q : List Request). RepliesFit q (replies_of front)) (sym c.lacks.1) (front_fits front more (request ∷ []) fit) in
+      subst (λ (q : List Request). RepliesFit q (replies_of front)) (sym c.lacks.1) (front-fits front more (request ∷ []) fit) in
       subst (λ (a : Account). LacksReply a front request)
-      (same_account program code agrees start takes from (replies_of front) c.ran c.runs fits (front_numbers front more numbers)) c.lacks
-
-  all_asked : (front asked : List Answered) → RepliesFit (requests_of (front ++ asked)) (replies_of (front ++ asked)) → HaveNumbers (replies_of (front ++ asked))
-      → AreAsked (CodeAsks code start) front asked → AreAsked (ProgramAsks program start) front asked
-  all_asked front [] fit numbers are = tt
-  all_asked front (a ∷ rest) fit numbers are =
-      let same = append_assoc front (a ∷ []) rest in (
-        program_asks front (a ∷ rest) a.request fit numbers are.0,
-        all_asked (front ++ a ∷ []) rest
-            (subst (λ (l : List Answered). RepliesFit (requests_of l) (replies_of l)) (sym same) fit)
-            (subst (λ (l : List Answered). HaveNumbers (replies_of l)) (sym same) numbers)
-            are.1,
-      )
+      (same_account program code agrees start takes from (replies_of front) c.ran c.runs fits (front-numbers front more numbers)) c.lacks
 
   still_stopped : (asked : List Answered) (core : CoreState) → RepliesFit (requests_of asked) (replies_of asked) → HaveNumbers (replies_of asked)
       → IsStopped (CodeAsks code start asked) core → IsStopped (ProgramAsks program start asked) core
   still_stopped asked core fit numbers (inl still) = inl still
-  still_stopped asked core fit numbers (inr (request, asks, how)) =
-      let same = append-nil asked in
-      inr (
-        request,
-        program_asks asked [] request
-            (subst (λ (l : List Answered). RepliesFit (requests_of l) (replies_of l)) (sym same) fit)
-            (subst (λ (l : List Answered). HaveNumbers (replies_of l)) (sym same) numbers)
-            asks,
-        how,
-      )
+  still_stopped asked core fit numbers (inr (request, asks, how)) = inr (request, last-asked (CodeAsks code start) (ProgramAsks program start) program_asks asked request fit numbers asks, how)
 
 pub kernel_left : (program : ProgramTree) (code : Code) → RunsAreMeant program code → (units chair : ℕ) (of : StartOf) (old new : CoreState) → TakesArguments program of.function of.args
     → LeavesCode code units chair of old new → LeavesKernel program units chair of old new
@@ -127,6 +95,6 @@ kernel_left program code agrees units chair of old new takes (inr cuts) =
       config = cut.config;
       later = cut.later;
       at_top = cut.at_top;
-      asks = all_asked program code agrees start takes cuts.from [] cut.asked cuts.fit cuts.numbers cut.asks;
+      asks = all-asked (CodeAsks code start) (ProgramAsks program start) (program_asks program code agrees start takes cuts.from) [] cut.asked cuts.fit cuts.numbers cut.asks;
       stands = still_stopped program code agrees start takes cuts.from cut.asked new cuts.fit cuts.numbers cut.stands;
     })

@@ -13,9 +13,9 @@ use Rattle.rtio_core.specs.Lawful.{IsOpenFor}
 use Rattle.rtio_core.specs.Top.{top}
 use Rattle.rtio_core.specs.Core.{CoreState, IsCore, core_top}
 use Rattle.rtio_core.specs.Calls.{AnswersAsk, NoOtherWaits, answered}
-use Rattle.lab_kernels.specs.declared.turn.Turn.TheVariants.{Replied, Again, Over}
+use Rattle.core_session.specs.declared.turn.Turn.TheVariants.{Replied, Again, Over}
 use Rattle.lab_kernels.specs.Turns.{IsTurn, ticked_on, waits_with}
-use Rattle.lab_kernels.proofs.AtTop.{DecidedStays, decided-at-top, never-held}
+use Rattle.core_session.proofs.AtTop.{DecidedStays, decided-at-top, never-held}
 
 -- what a leap leaves
 pub leapt : (old mid : CoreState) (count : ℕ) → count ≡ min 4096 (core_top old - old.counter) → mid ≡ record old { counter = old.counter + count } → mid ≡ ticked_on old

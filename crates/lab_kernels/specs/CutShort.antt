@@ -1,5 +1,5 @@
 -- A session that want of memory cuts short.
-use Rattle.std.specs.Prelude.{◌≡◌, ◌⊎◌, ℕ, ◌≤◌, List, [], ◌∷◌, ◌++◌, Some, None, IsSome, FitsSigned}
+use Rattle.std.specs.Prelude.{◌≡◌, ◌⊎◌, ℕ, ◌≤◌, List, [], ◌++◌, Some, None, IsSome, FitsSigned}
 use Rattle.std.specs.Int.{w64}
 use Rattle.rtio_types.specs.declared.request.Request.{Request}
 use Rattle.rtio_core.specs.declared.data.StartOf.{StartOf}
@@ -8,31 +8,12 @@ use Rattle.rtio_core.specs.Entries.{last_at, last_cursor}
 use Rattle.rtio_core.specs.Reply.{reply_to}
 use Rattle.rtio_core.specs.Top.{top}
 use Rattle.core_isa.specs.declared.code.Code.{Code}
-use Rattle.core_isa.specs.Runs.{Ran, Runs}
 use Rattle.core_isa.specs.WellAsked.{RepliesFit}
-use Rattle.core_cpu.specs.Standing.{Start as Beginning}
+pub use Rattle.core_session.specs.Asking.{AreAsked, CodeAsks, LacksReply}
 use Rattle.core_session.specs.Scripts.{HaveNumbers}
-use Rattle.core_session.specs.Sessions.{Account, Answered, account_of, beginning_of}
-use Rattle.core_session.specs.Sessions.{open_entries, replies_of, requests_of}
+use Rattle.core_session.specs.Sessions.{Answered, beginning_of, open_entries, replies_of, requests_of}
 use Rattle.lab_kernels.specs.Decided.{WaitsFor}
 use Rattle.lab_kernels.specs.Kernels.{AreAskedAtTop}
-
--- ---- the requests
-
--- an account lacks the reply to this request, which is its only one behind these
-abbrev pub LacksReply : Account → List Answered → Request → Type 0
-LacksReply a asked request = (a.outcome ≡ None) × (a.requests ≡ requests_of asked ++ request ∷ [])
-
--- under the replies to these the run of the code asks this request next
-pub record CodeAsks (code : Code) (start : Beginning) (asked : List Answered) (request : Request) : Type 0 where
-  pub ran : Ran
-  pub runs : Runs code start.function start.args start.cursor start.units (replies_of asked) ran
-  pub lacks : LacksReply (account_of ran) asked request
-
--- each of some requests is asked so, behind those before
-abbrev pub AreAsked : (Asks : List Answered → Request → Type 0) → (before : List Answered) → List Answered → Type 0
-AreAsked Asks before [] = Unit {0}
-AreAsked Asks before (a ∷ rest) = Asks before a.request × AreAsked Asks (before ++ a ∷ []) rest
 
 -- ---- where the core stands
 

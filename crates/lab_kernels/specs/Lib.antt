@@ -3,6 +3,7 @@ pub mod Kernels
 pub mod Decided
 pub mod CutShort
 pub mod Standing
+pub mod Owning
 pub mod Runs
 pub mod Meanings
 pub use Rattle.kernel_session.specs.DoesAs

@@ -8,8 +8,8 @@ use Rattle.rtio_core.specs.Calls.{NoOtherWaits, answered}
 use Rattle.rtio_core.specs.Core.{CoreState, core_top}
 use Rattle.rtio_core.specs.Reply.{reply_to}
 use Rattle.rtio_core.specs.Top.{top}
-use Rattle.lab_kernels.specs.declared.turn.Turn.{Turn}
-use Rattle.lab_kernels.specs.declared.turn.Turn.TheVariants.{Replied, Again, Over}
+use Rattle.core_session.specs.declared.turn.Turn.{Turn}
+use Rattle.core_session.specs.declared.turn.Turn.TheVariants.{Replied, Again, Over}
 
 -- the core after the ticks of one holding: up to where it is stopped, but at most 4,096
 abbrev pub ticked_on : CoreState → CoreState

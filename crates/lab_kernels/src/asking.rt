@@ -6,7 +6,8 @@ ghost use Rattle.rtio_core.specs.Calls.{NoOtherWaits};
 ghost use Rattle.rtio_core.specs.Lawful.{IsOpenFor};
 ghost use Rattle.lab_kernels.specs.Decided.{IsDecided, IsHeldUp, WaitsFor};
 
-use crate::turn::{Turn, ask_stopped};
+use crate::turn::ask_stopped;
+use core_session::Turn;
 use rtio_core::Core;
 use rtio_types::{Reply, Request};
 use std::alloc::{AllocError, Global};

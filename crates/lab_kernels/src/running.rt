@@ -1,20 +1,16 @@
 // A whole session on a core of one's own.
 
-ghost use Rattle.std.specs.Prelude.{◌≡◌, IfOk, None, OnErr, OnOk};
-ghost use Rattle.rtio_core.specs.Calls.{started};
-ghost use Rattle.rtio_core.specs.Entries.{last_cursor, open_session};
+ghost use Rattle.std.specs.Prelude.{◌≡◌, IfOk, None, OnErr};
+ghost use Rattle.rtio_core.specs.Entries.{open_session};
 ghost use Rattle.core_cpu.specs.Standing.{HasEntry};
-ghost use Rattle.core_session.specs.Standing.{Session};
 ghost use Rattle.lab_kernels.specs.CutShort.{LeavesCode};
 ghost use Rattle.lab_kernels.specs.Runs.{HasRun};
-ghost use Rattle.lab_kernels.specs.Standing.{Begins, HasBegun, HasLeft, HasPlayed};
 
-use crate::answering::go_on;
-use core_cpu::Cpu;
+use crate::owner::Owner;
 use core_image::Verified;
-use rtio_core::{Core, StartEnd, StartOf};
-use rtio_types::Outcome;
-use sched_state::{DataSet, KernelResult, SetList};
+use core_session::run_lent;
+use rtio_core::{Core, StartOf};
+use sched_state::{KernelResult, SetList};
 use std::alloc::{AllocError, Global};
 
 /// Runs a function of accepted code as a session of chair `who`, with so many units, at once: the core ticks only where a request
@@ -38,50 +34,11 @@ pub fn run_function(
     // with their replies, each asked at its top.
     ensures left { OnErr result (LeavesCode code.now units who of core.old core.new) }
 {
-    let function = of.function;
-    let args = of.args.copy(alloc)?;
     let mut sets = Vec::new(alloc);
-    let cursor = start(alloc, core, who, of)?;
-    let mut cpu = Cpu::boot(alloc, code, function, args.items(), cursor, units)?;
-    let outcome = play(alloc, core, who, &mut cpu, &mut sets)?;
-    let steps = cpu.steps();
+    let ran = run_lent(&Owner { who }, alloc, core, &mut sets, code, of, units)?;
     Ok(KernelResult {
-        outcome,
+        outcome: ran.outcome,
         sets: SetList::of(sets),
-        steps,
+        steps: ran.steps,
     })
-}
-
-// Starts the session, where none is open, and answers its cursor (mu).
-fn start(alloc: Global, core: &mut Core, who: u32, of: StartOf) -> Result<i64, AllocError>
-    requires { open_session core.old.history ≡ None }
-    ensures cursor { IfOk result (λ cursor. cursor ≡ last_cursor core.old.history) }
-    ensures ok { OnOk result (core.new ≡ started core.old who of (last_cursor core.old.history)) }
-    ensures err { OnErr result (core.new ≡ core.old) }
-{
-    match core.start(alloc, who, of) {
-        Ok(cursor) => Ok(cursor),
-        Err(StartEnd::Memory) => Err(AllocError),
-        Err(StartEnd::Busy { .. }) => unreachable!(),
-    }
-}
-
-// Plays a session that has begun to its end.
-fn play(
-    alloc: Global,
-    core: &mut Core,
-    who: u32,
-    cpu: &mut Cpu<'_>,
-    sets: &mut Vec<DataSet>,
-) -> Result<Outcome, AllocError>
-    requires { HasBegun who core.old cpu.old sets.old.items }
-    ensures played { IfOk result (λ how. (s : Session) → Begins who s core.old cpu.old sets.old.items
-        → HasPlayed who s core.new cpu.new sets.new.items how) }
-    ensures left { OnErr result ((s : Session) → Begins who s core.old cpu.old sets.old.items → HasLeft who s core.new) }
-{
-    loop {
-        if let Some(outcome) = go_on(alloc, core, who, cpu, sets)? {
-            return Ok(outcome);
-        }
-    }
 }

@@ -8,23 +8,13 @@ ghost use Rattle.rtio_core.specs.Reply.{reply_to};
 ghost use Rattle.rtio_core.specs.Top.{top};
 ghost use Rattle.lab_kernels.specs.Turns.{IsTurn, ticked_on};
 
+use core_session::Turn;
 use rtio_core::{Ask, Core, what_is_decided_stays_decided};
-use rtio_types::{Reply, Request};
+use rtio_types::Request;
 use std::alloc::{AllocError, Global};
 
 // How many cycles a core goes on while it is held once, at most.
 const MOST_TICKS: u64 = 4_096;
-
-/// What became of a request.
-#[derive(Debug, Drop)]
-pub enum Turn {
-    /// It got this reply.
-    Replied(Reply),
-    /// It has to be asked again.
-    Again(Request),
-    /// It isn't decided at the last cycle.
-    Over,
-}
 
 /// Holds a core once for a request of chair `who`, whose session is open: lets it tick until it is stopped, 4,096 cycles at
 /// most, and asks where it stopped. So no request is asked before its time, and no chair holds a core for long; both are this

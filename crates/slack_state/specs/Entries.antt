@@ -1,5 +1,6 @@
 -- A name's place among the values, and what is read and written at a place.
-use Rattle.std.specs.Prelude.{ℕ, suc, List, [], ◌∷◌, Option, Some, None, pos, bytes_eq, slice_get, slice_set, if◌then◌else◌}
+use Rattle.std.specs.Prelude.{ℕ, suc, List, [], ◌∷◌, Option, Some, None, pos, bytes_eq}
+use Rattle.std.specs.Prelude.{slice_get, slice_set, if◌then◌else◌}
 use Rattle.kern_syntax.specs.Tree.{Bytes}
 use Rattle.slack_meaning.specs.Actions.{Held, number}
 use Rattle.slack_meaning.specs.Spans.{exactly}
