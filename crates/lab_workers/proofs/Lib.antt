@@ -11,4 +11,5 @@ pub mod Doing
 pub mod Leaving
 pub mod Halted
 pub mod Rounds
+pub mod Finding
 pub use Rattle.stage_work.proofs.Beginning

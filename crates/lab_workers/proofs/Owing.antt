@@ -9,9 +9,10 @@ use Rattle.sched_state.specs.declared.entry.SchedAct.{SchedAct}
 use Rattle.sched_state.specs.declared.entry.SchedAct.TheVariants.{Halted, Jumped, Took}
 use Rattle.sched_state.specs.declared.entry.SchedEntry.{SchedEntry}
 use Rattle.sched_core.specs.Calls.{same_job}
-use Rattle.lab_workers.specs.declared.tasks.Report.{Report}
-use Rattle.lab_workers.specs.declared.tasks.Report.TheVariants as report
-use Rattle.lab_workers.specs.Reports.{HasTold, act_told, job_told}
+use Rattle.stage_work.specs.declared.tasks.Report.{Report}
+use Rattle.stage_work.specs.declared.tasks.Report.TheVariants as report
+use Rattle.stage_work.specs.Reports.{act_told, job_told}
+use Rattle.lab_workers.specs.Reports.{HasTold}
 use Rattle.lab_workers.specs.Turns.{halt_due}
 use Rattle.lab_workers.specs.Workers.{SchedChair, owed, owed_after, without}
 

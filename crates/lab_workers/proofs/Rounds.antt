@@ -13,28 +13,33 @@ use Rattle.sched_state.specs.Lawful.{halted_by, state_after}
 use Rattle.sched_state.specs.Picks.{is_over}
 use Rattle.sched_core.specs.Booked.{booked_acts}
 use Rattle.stage_work.proofs.Cores.{set-at}
-use Rattle.desk_kernels.specs.Chairs.{CoreChair, IsAt, IsSameChair, KnowsItsOwn}
+use Rattle.desk_kernels.specs.Chairs.{CoreChair, IsAt, IsSameChair}
 use Rattle.worker_desks.specs.declared.desks.Desks.{Desks}
-use Rattle.lab_workers.specs.declared.tasks.Turn.{Turn}
-use Rattle.lab_workers.specs.declared.tasks.Turn.TheVariants as turn
+use Rattle.lab_workers.specs.declared.turns.Turn.{Turn}
+use Rattle.lab_workers.specs.declared.turns.Turn.TheVariants as turn
 use Rattle.lab_workers.specs.declared.worker.WorkEnd.{WorkEnd}
 use Rattle.lab_workers.specs.declared.worker.WorkEnd.TheVariants.{Finished, Memory, Stopped}
 use Rattle.lab_workers.specs.Idling.{AreAt, HaveWaited}
 use Rattle.lab_workers.specs.Rounds.{ComesTo, GoesOn, IsEnd, IsEndIf, KeepsRest}
-use Rattle.lab_workers.specs.Stepping.{UsesCore}
 use Rattle.lab_workers.specs.Turns.{Follows, HasAsked, HasTurned, PutsQuietly}
 use Rattle.lab_workers.specs.Workers.{IsAtRest, IsFree, IsWorkerAt, SchedChair, StandsWith, WorkerValue, owed, sched_entries}
-use Rattle.lab_workers.proofs.Resting.{comes-trans, each-get, each-set, goes-sched, goes-trans, keeps-quiet}
+use Rattle.lab_workers.proofs.Resting.{comes-trans, each-get, each-set, goes-same, goes-sched, goes-trans, keeps-quiet}
+use Rattle.lab_workers.proofs.Leaving.{AreUsed}
 use Rattle.lab_workers.proofs.Waiting.{goes-waited, keeps-waited}
 
 -- the same chair still has the number, and holds nothing
 pub free-follows : (n : ℕ) (c e : SchedChair) → IsFree n c → Follows c e → IsFree n e
 free-follows n c e free follows = (follows.same.1 ∙ free.0, follows.same.2)
 
-pub free-core : (n : ℕ) (cores : List CoreChair) (pipeline : ℕ) (was now : CoreChair) → Each (IsFree n) cores → slice_get cores pipeline ≡ Some was
+free-core : (n : ℕ) (cores : List CoreChair) (pipeline : ℕ) (was now : CoreChair) → Each (IsFree n) cores → slice_get cores pipeline ≡ Some was
     → IsSameChair was now → Each (IsFree n) (slice_set cores pipeline now)
 free-core n cores pipeline was now free found same =
     each-set (IsFree n) cores pipeline now free (same.1 ∙ (each-get (IsFree n) cores pipeline was free found).0, same.2)
+
+pub free-used : (n : ℕ) (old new : List CoreChair) → Each (IsFree n) old → AreUsed old new → Each (IsFree n) new
+free-used n old new free (inl same) = subst (Each (IsFree n)) (sym same) free
+free-used n old new free (inr (pipeline, was, now, found, same, set)) =
+    subst (Each (IsFree n)) (sym set) (free-core n old pipeline was now free found same)
 
 pub turned-as : (session : Session) (t other : Turn) (c e : SchedChair) → t ≡ other → HasTurned session t c e → HasTurned session other c e
 turned-as session t other c e is = let T : Turn → Type 0 = λ x. HasTurned session x c e in subst T is
@@ -83,7 +88,7 @@ module _ (desks : Desks) (inside w : WorkerValue) (is : inside ≡ w) (at : IsWo
       (keeps-waited (record inside { sched = e }) cores waited desks.session free)
 
   -- it used one of them
-  pub goes-core : (pipeline : ℕ) (was now : CoreChair) → slice_get inside.cores pipeline ≡ Some was → IsSameChair was now
+  goes-core : (pipeline : ℕ) (was now : CoreChair) → slice_get inside.cores pipeline ≡ Some was → IsSameChair was now
       → GoesOn desks w (record inside { cores = slice_set inside.cores pipeline now })
   goes-core pipeline was now found same =
       let G : WorkerValue → Type 0 = λ v. GoesOn desks v (record inside { cores = slice_set inside.cores pipeline now }) in
@@ -104,31 +109,23 @@ module _ (desks : Desks) (inside w : WorkerValue) (is : inside ≡ w) (at : IsWo
           ap (λ (c : CoreChair). c.desk) here.1 ∙ (same.0 ∙ at-inside.cores other desk was there (subst F (sym here.0) found))
       which other desk chair there (inr apart) = at-inside.cores other desk chair there apart.1
 
--- ---- a core
+  -- or it was left alone
+  goes-used : (cores : List CoreChair) → AreUsed inside.cores cores → GoesOn desks w (record inside { cores = cores })
+  goes-used cores (inl same) =
+      let G : List CoreChair → Type 0 = λ cs. GoesOn desks w (record inside { cores = cs }) in
+      let V : WorkerValue → Type 0 = λ v. GoesOn desks v inside in
+      subst G (sym same) (subst V is (goes-same desks inside at-inside))
+  goes-used cores (inr (pipeline, was, now, found, same, set)) =
+      let G : List CoreChair → Type 0 = λ cs. GoesOn desks w (record inside { cores = cs }) in
+      subst G (sym set) (goes-core pipeline was now found same)
 
--- the worker has used its chair at one core's desk
-pub uses-core : (desks : Desks) (inside w : WorkerValue) → inside ≡ w → (pipeline : ℕ) (Changes : Config → CoreChair → CoreChair → Type 0) (desk : Opened Config) (was now : CoreChair)
-    → slice_get desks.cores.items pipeline ≡ Some desk → slice_get inside.cores pipeline ≡ Some was → was.number ≡ inside.number
-    → IsSameChair was now → IsPrefix was.seen now.seen → (KnowsItsOwn was → KnowsItsOwn now) → Changes desk.fixed was now
-    → UsesCore desks pipeline Changes w (record inside { cores = slice_set inside.cores pipeline now })
-uses-core desks inside w is pipeline Changes desk was now at found number same later knows so =
-    let U : WorkerValue → Type 0 = λ v. UsesCore desks pipeline Changes v (record inside { cores = slice_set inside.cores pipeline now }) in
-    subst U is (record {
-      core = record {
-        desk = desk;
-        was = was;
-        now = now;
-        at = at;
-        found = found;
-        leaves = refl;
-        number_is = number;
-        same = same;
-        later = later;
-        knows = knows;
-        so = so;
-      };
-      leaves = refl;
-    })
+  -- and it was at the scheduler's desk
+  pub goes-done : (e : SchedChair) (cores : List CoreChair) → AreUsed inside.cores cores → Follows inside.sched e
+      → GoesOn desks w (record { number = inside.number; sched = e; cores = cores })
+  goes-done e cores used follows =
+      let first = goes-used cores used in
+      goes-trans desks w (record inside { cores = cores }) (record { number = inside.number; sched = e; cores = cores }) first
+      (goes-sched desks (record inside { cores = cores }) e first.at follows)
 
 -- ---- an end
 

@@ -22,11 +22,12 @@ use Rattle.sched_laws.proofs.Holding.{fly-until-reported}
 use Rattle.sched_core.specs.Booked.{booked_acts}
 use Rattle.sched_core.specs.Scheds.{IsKitIn}
 use Rattle.lab_kits.specs.Kits.{KitCall, KitText, kit_source}
+use Rattle.stage_work.proofs.Jobs.{judged-told}
 use Rattle.stage_work.proofs.Lasting.{accepted-same, judgements-last}
 use Rattle.stage_work.specs.Judged.{IsJudged, OfRun}
-use Rattle.lab_workers.specs.declared.tasks.Report.{Report}
-use Rattle.lab_workers.specs.declared.tasks.Report.TheVariants as report
-use Rattle.lab_workers.specs.Reports.{HasRanAt, IsRight, act_told}
+use Rattle.stage_work.specs.declared.tasks.Report.{Report}
+use Rattle.stage_work.specs.declared.tasks.Report.TheVariants as report
+use Rattle.stage_work.specs.Reports.{HasRanAt, IsRight, act_told}
 use Rattle.lab_workers.specs.Turns.{HasTaken}
 use Rattle.lab_workers.specs.Workers.{SchedChair, sched_entries}
 use Rattle.lab_workers.proofs.Entries.{none-came, sched-further}
@@ -106,9 +107,5 @@ right-still session told chair found begins right =
 -- a right report tells of a source what is true, also when more is put
 pub right-judged : (session : Session) (found more : List SchedEntry) (told : Report) → IsRight session found told
     → IsJudged session (found ++ more) (act_told session found told)
-right-judged session found more (report.Prepared rid kit) (run, is, p) =
-    judgements-last session found more (act_told session found (report.Prepared rid kit)) (run, is, p.1)
-right-judged session found more (report.Refused rid) (run, is, p) =
-    judgements-last session found more (act_told session found (report.Refused rid)) (run, is, p)
-right-judged session found more (report.Stepped rid place kit ran) right = tt
-right-judged session found more (report.Analyzed rid) right = tt
+right-judged session found more told right =
+    judgements-last session found more (act_told session found told) (judged-told session found told right)

@@ -1,6 +1,6 @@
 -- A report, from the scheduler to the chair.
 use Rattle.std.proofs.Common.{◌≡◌, ℕ, List, [], ◌∷◌, Result, Ok, Err, refl, sym, ap, subst, ◌∙◌}
-use Rattle.std.specs.Prelude.{Some, None, OnErr, OnOk, filter}
+use Rattle.std.specs.Prelude.{OnErr, OnOk, filter}
 use mathlib.Core.List.{IsPrefix}
 use Rattle.desk.specs.Seated.{Puts, holding, losing}
 use Rattle.desk_rule.specs.Histories.{acts_of}
@@ -12,11 +12,12 @@ use Rattle.sched_core.specs.Booked.{booked_acts}
 use Rattle.sched_core.specs.Calls.{entry_of, with_entry}
 use Rattle.sched_core.specs.Scheds.{IsSched, SchedValue}
 use Rattle.stage_work.specs.Judged.{IsJudged}
-use Rattle.stage_work.specs.Ties.{reports_of}
 use Rattle.stage_work.specs.Jobs.{Flies}
-use Rattle.lab_workers.specs.declared.tasks.Report.{Report}
-use Rattle.lab_workers.specs.declared.tasks.Report.TheVariants as report
-use Rattle.lab_workers.specs.Reports.{HasTold, IsRight, act_told, job_told}
+use Rattle.stage_work.specs.declared.tasks.Report.{Report}
+use Rattle.stage_work.specs.declared.tasks.Report.TheVariants as report
+use Rattle.stage_work.specs.Reports.{HasNoResult, IsRight, act_told, job_told}
+use Rattle.stage_work.proofs.Jobs.{no-report}
+use Rattle.lab_workers.specs.Reports.{HasTold}
 use Rattle.lab_workers.specs.Turns.{HasPut, HasTaken, PutsNothing, PutsQuietly, ReportsQuietly, adds}
 use Rattle.lab_workers.specs.Workers.{SchedChair, is_halt, sched_entries}
 use Rattle.lab_workers.proofs.Holdings.{has-put, sees-put}
@@ -81,18 +82,6 @@ module _ (session : Session) (chair : SchedChair) (was value : SchedValue) (who 
   untold d e lost now held puts nothing = has-looked chair d e lost was value now who session own held same puts is known begins knows nothing
 
 -- ---- reports that are quiet
-
--- a report that has no result
-abbrev pub HasNoResult : Report → Type 0
-HasNoResult (report.Stepped rid place kit (Some result)) = ⊥
-HasNoResult other = Unit {0}
-
-no-report : (session : Session) (found : List SchedEntry) (told : Report) → HasNoResult told → (pipeline : ℕ) → reports_of pipeline (act_told session found told ∷ []) ≡ []
-no-report session found (report.Prepared rid kit) free pipeline = refl
-no-report session found (report.Refused rid) free pipeline = refl
-no-report session found (report.Stepped rid place kit None) free pipeline = refl
-no-report session found (report.Stepped rid place kit (Some result)) free pipeline = absurd free
-no-report session found (report.Analyzed rid) free pipeline = refl
 
 pub no-halt : (session : Session) (found : List SchedEntry) (told : Report) → filter is_halt (act_told session found told ∷ []) ≡ []
 no-halt session found (report.Prepared rid kit) = refl

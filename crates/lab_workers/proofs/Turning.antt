@@ -25,10 +25,11 @@ use Rattle.stage_work.specs.Judged.{IsJudged}
 use Rattle.stage_work.specs.Ties.{reports_of}
 use Rattle.stage_work.specs.Jobs.{Flies}
 use Rattle.stage_work.proofs.Scheds.{job-lasts}
-use Rattle.lab_workers.specs.declared.tasks.Task.{Task}
-use Rattle.lab_workers.specs.declared.tasks.Turn.{Turn}
-use Rattle.lab_workers.specs.declared.tasks.Turn.TheVariants as turn
-use Rattle.lab_workers.specs.Tasks.{IsTakenLast, IsTaskIn, IsTurnIn, job_in, job_of}
+use Rattle.stage_work.specs.declared.tasks.Task.{Task}
+use Rattle.lab_workers.specs.declared.turns.Turn.{Turn}
+use Rattle.lab_workers.specs.declared.turns.Turn.TheVariants as turn
+use Rattle.stage_work.specs.Tasks.{IsTaskIn, job_of}
+use Rattle.lab_workers.specs.Tasks.{IsTakenLast, IsTurnIn, job_in}
 use Rattle.lab_workers.specs.Turns.{AreQuiet, HasPut, HasTaken, HasTurned, IsTurn, PutsNothing, adds, goes_on}
 use Rattle.lab_workers.specs.Workers.{SchedChair, is_halt, owed, sched_entries}
 use Rattle.lab_workers.proofs.Holdings.{has-put, knows-put, puts-nothing, sees-put}

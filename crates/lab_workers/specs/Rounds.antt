@@ -3,7 +3,7 @@ use Rattle.std.specs.Prelude.{◌≡◌, List, [], Option, Some, None}
 use Rattle.exp_model.specs.declared.session.Session.{Session}
 use Rattle.sched_state.specs.declared.entry.JobName.{JobName}
 use Rattle.worker_desks.specs.declared.desks.Desks.{Desks}
-use Rattle.lab_workers.specs.declared.tasks.Turn.TheVariants as turn
+use Rattle.lab_workers.specs.declared.turns.Turn.TheVariants as turn
 use Rattle.lab_workers.specs.declared.worker.WorkEnd.{WorkEnd}
 use Rattle.lab_workers.specs.declared.worker.WorkEnd.TheVariants.{Finished, Stopped, Memory}
 use Rattle.lab_workers.specs.Turns.{HasAsked}

@@ -14,7 +14,7 @@ use Rattle.sched_core.specs.Scheds.{SchedValue}
 use Rattle.stage_work.specs.Judged.{IsJudged}
 use Rattle.stage_work.specs.Ties.{reports_of}
 use Rattle.desk_kernels.specs.Chairs.{IsSameChair, KnowsItsOwn}
-use Rattle.lab_workers.specs.declared.tasks.Turn.{Turn}
+use Rattle.lab_workers.specs.declared.turns.Turn.{Turn}
 use Rattle.lab_workers.specs.Tasks.{IsTakenLast, IsTurnIn, job_in}
 use Rattle.lab_workers.specs.Workers.{SchedChair, is_halt, owed, sched_entries}
 

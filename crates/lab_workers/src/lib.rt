@@ -2,12 +2,10 @@
 //! the desks of the cores, and reports. How workers go about it is this project's own.
 #![tactic(auto)]
 
+mod at_desks;
 mod halting;
 mod idling;
-mod preparing;
 mod reporting;
-mod starting;
-mod tasks;
 mod turns;
 mod worker;
 

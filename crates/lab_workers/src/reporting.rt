@@ -1,18 +1,16 @@
 // Reports at the scheduler's desk.
 
 ghost use Rattle.std.specs.Prelude.{◌≡◌, OnErr, OnOk};
-ghost use Rattle.sched_core.specs.Calls.{with_entry};
-ghost use Rattle.stage_work.specs.Jobs.{Flies};
+ghost use Rattle.stage_work.specs.Reports.{IsRight, job_told};
 ghost use Rattle.desk_kernels.specs.Chairs.{IsAt};
-ghost use Rattle.lab_workers.specs.Reports.{HasTold, IsRight, act_told, job_told};
+ghost use Rattle.lab_workers.specs.Reports.{HasTold};
 ghost use Rattle.lab_workers.specs.Turns.{Follows, HasTaken, PutsNothing};
 ghost use Rattle.lab_workers.specs.Workers.{AreDesksOf, sched_entries};
 
-use crate::tasks::Report;
 use desk::Chair;
 use lab_kits::Kit;
 use sched_core::Sched;
-use stage_work::{report_analyzed, report_prepared, report_refused, report_step};
+use stage_work::{Report, write_report};
 use std::alloc::{AllocError, Global};
 use std::sync::Wait;
 use worker_desks::Desks;
@@ -41,26 +39,4 @@ pub(crate) fn tell<R: Wait>(
     let told = write_report(alloc, sched, who, report);
     desks.sched.put(chair, held);
     told
-}
-
-// Reports a job of a chair that is in flight.
-fn write_report(
-    alloc: Global,
-    sched: &mut Sched<Kit>,
-    who: u32,
-    report: Report,
-) -> Result<(), AllocError>
-    requires flies { Flies who (job_told report) sched.old }
-    requires right { IsRight sched.old.session sched.old.history report }
-    ensures ok { OnOk result (sched.new ≡ with_entry who (act_told sched.old.session sched.old.history report) sched.old) }
-    ensures err { OnErr result (sched.new ≡ sched.old) }
-{
-    match report {
-        Report::Prepared { rid, kit } => report_prepared(alloc, sched, who, rid, kit),
-        Report::Refused { rid } => report_refused(alloc, sched, who, rid),
-        Report::Stepped { rid, pos, kit, ran } => report_step(
-            alloc, sched, who, rid, pos, kit, ran,
-        ),
-        Report::Analyzed { rid } => report_analyzed(alloc, sched, who, rid),
-    }
 }

@@ -1,7 +1,6 @@
 // A worker at desks.
 
 mod rounds;
-mod stepping;
 
 ghost use Rattle.std.specs.Prelude.{◌≡◌, ◌≢◌, ◌<◌, ℕ, length, None, Some, IsSome, IsTrue};
 ghost use Rattle.desk_rule.specs.Histories.{Each};

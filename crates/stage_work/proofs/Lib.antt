@@ -1,5 +1,4 @@
 pub mod Own
-pub mod Preparations
 pub mod Scheds
 pub mod Cores
 pub mod Done

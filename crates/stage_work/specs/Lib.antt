@@ -1,6 +1,9 @@
 pub mod Jobs
+pub mod Tasks
+pub mod Reports
+pub mod Starting
+pub mod Doing
 pub mod Serving
-pub mod Stepping
 pub use Rattle.lab_ties.specs.Acts
 pub use Rattle.lab_ties.specs.DoesAs
 pub use Rattle.lab_ties.specs.Finished

@@ -9,18 +9,18 @@ use Rattle.sched_state.specs.declared.entry.Flight.{Flight}
 use Rattle.sched_state.specs.declared.entry.SchedEntry.{SchedEntry}
 use Rattle.sched_state.specs.Lawful.{halted_by}
 use Rattle.sched_laws.specs.Left.{jobs_left}
-use Rattle.sched_core.specs.declared.answer.Job.{Job}
-use Rattle.sched_core.specs.declared.answer.Job.TheVariants as job
-use Rattle.sched_core.specs.Calls.{name_of}
 use Rattle.sched_core.specs.Scheds.{SchedValue, sched_state}
 pub use Rattle.lab_kernels.specs.Kernels.{ArePrompt}
-use Rattle.lab_kits.specs.declared.kit.Kit.{Kit}
+use Rattle.lab_kernels.specs.Meanings.{LeavesKernel, RunsKernel}
+use Rattle.lab_kits.specs.Kits.{program_in}
 use Rattle.lab_ties.specs.Acts.{core_acts, sched_acts}
 use Rattle.lab_ties.specs.Judged.{IsJudged}
 use Rattle.lab_ties.specs.Settings.{config_at}
 use Rattle.lab_ties.specs.Ties.{AreTied}
-use Rattle.stage_work.specs.Jobs.{HasTaken, in_flight}
-use Rattle.stage_work.specs.Stepping.{ChangesAt, IsUnreported}
+use Rattle.stage_work.specs.declared.tasks.Task.{Task}
+use Rattle.stage_work.specs.Doing.{Cutting, LeavesPlaces, Running}
+use Rattle.stage_work.specs.Jobs.{in_flight}
+use Rattle.stage_work.specs.Tasks.{IsTaskIn, job_of}
 
 -- The scheduler has this session, and these jobs in flight. It wasn't
 -- halted; all entries are of chair 0; and each source was judged rightly
@@ -53,23 +53,29 @@ pub record IsServed (session : Session) (flying : List Flight) (sched : SchedVal
   pub scheduler : IsServedSched session flying sched
   pub each_core : AreServedCores session sched.history cores
 
+-- a kernel of a pipeline has run as a session of chair 0 with these units,
+-- or want of memory has kept it from that, or cut it short
+abbrev pub OwnRuns : (units : ℕ) → Running CoreState
+OwnRuns units pipeline kit of old new result = RunsKernel (program_in kit) kit.compiled.1 units 0 of old new result
+
+abbrev pub OwnCuts : (units : ℕ) → Cutting CoreState
+OwnCuts units pipeline kit of old new = LeavesKernel (program_in kit) units 0 of old new
+
 -- a job that want of memory stopped has left the cores as they were, but that of the pipeline whose step it does
-abbrev pub LeavesCores : Session → Job Kit → (cores now : List CoreState) → Type 0
-LeavesCores session (job.Step rid pos pipeline step kit) cores now =
-    ChangesAt pipeline (IsUnreported session.budget kit (record { rid = rid; pos = pos; pipeline = pipeline }) step) cores now
-LeavesCores session other cores now = now ≡ cores
+abbrev pub LeavesCores : Session → Task → (cores now : List CoreState) → Type 0
+LeavesCores session taken cores now = LeavesPlaces (OwnRuns session.budget) (OwnCuts session.budget) taken cores now
 
 -- this job is in flight, and all else is as it was before
-pub record IsLeftWith (session : Session) (taken : Job Kit) (sched : SchedValue) (cores : List CoreState) : Type 0 where
-  pub scheduler : IsServedSched session (in_flight 0 (name_of taken) ∷ []) sched
-  pub has : HasTaken 0 taken sched
+pub record IsLeftWith (session : Session) (taken : Task) (sched : SchedValue) (cores : List CoreState) : Type 0 where
+  pub scheduler : IsServedSched session (in_flight 0 (job_of taken) ∷ []) sched
+  pub has : IsTaskIn session sched.history taken
   pub before : List CoreState
   pub served : AreServedCores session sched.history before
   pub leaves : LeavesCores session taken before cores
 
 -- what want of memory leaves: all as between two jobs, or one job that was taken and isn't reported
 abbrev pub IsLeft : Session → SchedValue → List CoreState → Type 0
-IsLeft session sched cores = IsServed session [] sched cores ⊎ ((taken : Job Kit) × IsLeftWith session taken sched cores)
+IsLeft session sched cores = IsServed session [] sched cores ⊎ ((taken : Task) × IsLeftWith session taken sched cores)
 
 -- how many jobs may still be reported
 abbrev pub jobs_left_at : SchedValue → ℕ

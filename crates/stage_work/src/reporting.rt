@@ -8,15 +8,38 @@ ghost use Rattle.sched_core.specs.declared.answer.Why.TheVariants.{Memory};
 ghost use Rattle.sched_core.specs.Calls.{HasJob, RanFits, stepped, with_entry};
 ghost use Rattle.sched_core.specs.Scheds.{sched_state};
 ghost use Rattle.stage_work.specs.Jobs.{Flies, HasKit};
+ghost use Rattle.stage_work.specs.Reports.{IsRight, act_told, job_told};
 
+use crate::tasks::Report;
 use exp_runs::Run;
 use lab_kits::Kit;
 use sched_core::{KernelResult, Sched, Why};
 use std::alloc::{AllocError, Global};
 
-/// Reports for chair `who`, which took the job, that a run was prepared, and hands its kit over. The only error is want of memory, and
-/// then nothing was reported.
-pub fn report_prepared(
+/// Reports for chair `who`, which took it, a job that is in flight. The only error is want of memory, and then nothing was reported.
+pub fn write_report(
+    alloc: Global,
+    sched: &mut Sched<Kit>,
+    who: u32,
+    report: Report,
+) -> Result<(), AllocError>
+    requires flies { Flies who (job_told report) sched.old }
+    requires right { IsRight sched.old.session sched.old.history report }
+    ensures ok { OnOk result (sched.new ≡ with_entry who (act_told sched.old.session sched.old.history report) sched.old) }
+    ensures err { OnErr result (sched.new ≡ sched.old) }
+{
+    match report {
+        Report::Prepared { rid, kit } => report_prepared(alloc, sched, who, rid, kit),
+        Report::Refused { rid } => report_refused(alloc, sched, who, rid),
+        Report::Stepped { rid, pos, kit, ran } => report_step(
+            alloc, sched, who, rid, pos, kit, ran,
+        ),
+        Report::Analyzed { rid } => report_analyzed(alloc, sched, who, rid),
+    }
+}
+
+// Reports that a run was prepared, and hands its kit over.
+fn report_prepared(
     alloc: Global,
     sched: &mut Sched<Kit>,
     who: u32,
@@ -35,9 +58,8 @@ pub fn report_prepared(
     }
 }
 
-/// Reports for chair `who`, which took the preparation, that a run's source was refused. The only error is want of memory, and then
-/// nothing was reported.
-pub fn report_refused(
+// Reports that a run's source was refused.
+fn report_refused(
     alloc: Global,
     sched: &mut Sched<Kit>,
     who: u32,
@@ -54,9 +76,8 @@ pub fn report_refused(
     }
 }
 
-/// Reports for chair `who`, which took the job, a step of a run, with its result if it is a kernel's, and hands the run's kit back. The
-/// only error is want of memory, and then nothing was reported.
-pub fn report_step(
+// Reports a step of a run, with its result if it is a kernel's, and hands the run's kit back.
+fn report_step(
     alloc: Global,
     sched: &mut Sched<Kit>,
     who: u32,
@@ -78,9 +99,8 @@ pub fn report_step(
     }
 }
 
-/// Reports for chair `who`, which took the job, that a run is to be analyzed now. The only error is want of memory, and then nothing was
-/// reported.
-pub fn report_analyzed(
+// Reports that a run is to be analyzed now.
+fn report_analyzed(
     alloc: Global,
     sched: &mut Sched<Kit>,
     who: u32,
@@ -98,7 +118,7 @@ pub fn report_analyzed(
 }
 
 /// The run whose preparation is in flight.
-pub fn run_in_flight(sched: &Sched<Kit>, rid: u64) -> Run
+pub(crate) fn run_in_flight(sched: &Sched<Kit>, rid: u64) -> Run
     requires { HasJob (sched_state sched.now) (name.Prepare rid) }
     ensures { run_of (sched_state sched.now).runs rid ≡ Some result }
 {

@@ -2,19 +2,21 @@
 
 ghost use Rattle.std.specs.Prelude.{◌≡◌, ◌<◌, [], true, false, IfOk, IsTrue, OnErr, OnOk};
 ghost use Rattle.sched_state.specs.Picks.{is_over};
-ghost use Rattle.sched_core.specs.Calls.{name_of};
 ghost use Rattle.sched_core.specs.Scheds.{new_sched, sched_state};
 ghost use Rattle.lab_ties.specs.Settings.{new_cores};
-ghost use Rattle.stage_work.specs.Jobs.{HasReported, HasTaken};
+ghost use Rattle.stage_work.specs.Jobs.{Flies, HasReported};
 ghost use Rattle.stage_work.specs.Serving.{AreServedCores, IsLeft, IsServed, LeavesCores, jobs_left_at};
+ghost use Rattle.stage_work.specs.Tasks.{IsTaskIn, job_of};
 
-use crate::preparing::do_preparation;
-use crate::reporting::report_analyzed;
-use crate::stepping::{StepAt, do_step};
+use crate::doing::do_task;
+use crate::owned::Owner;
+use crate::reporting::write_report;
+use crate::taking::task_of;
+use crate::tasks::Task;
 use exp_model::Session;
 use lab_kits::{Gate, Kit};
 use rtio_core::Core;
-use sched_core::{Job, Next, Sched};
+use sched_core::{Next, Sched};
 use std::alloc::{AllocError, Global};
 
 /// Does the work of one worker, as chair 0, until nothing is left to do: takes the job that is due, does it, and reports it. The
@@ -66,7 +68,8 @@ fn serve_next<G: Gate>(
     let _known = sched.history();
     match next {
         Next::Job(job) => {
-            do_job(alloc, sched, cores, session, gate, job)?;
+            let task = task_of(sched, job, 0);
+            do_job(alloc, sched, cores, session, gate, task)?;
             let _reported = sched.history();
             Ok(true)
         }
@@ -82,28 +85,21 @@ fn do_job<G: Gate>(
     cores: &mut [Core],
     session: &Session,
     gate: &G,
-    job: Job<Kit>,
+    task: Task,
 ) -> Result<(), AllocError>
     requires session { sched.old.session ≡ session.now }
-    requires taken { HasTaken 0 job sched.old }
+    requires flies { Flies 0 (job_of task) sched.old }
+    requires is { IsTaskIn sched.old.session sched.old.history task }
     requires cores { AreServedCores session.now sched.old.history cores.old }
-    ensures reports { OnOk result (HasReported 0 (name_of job) sched.old sched.new) }
+    ensures reports { OnOk result (HasReported 0 (job_of task) sched.old sched.new) }
     ensures cores { OnOk result (AreServedCores session.now sched.new.history cores.new) }
     ensures err { OnErr result (sched.new ≡ sched.old) }
-    ensures left { OnErr result (LeavesCores session.now job cores.old cores.new) }
+    ensures left { OnErr result (LeavesCores session.now task cores.old cores.new) }
 {
-    match job {
-        Job::Prepare { rid, .. } => do_preparation(alloc, sched, session, gate, rid),
-        Job::Step {
-            rid,
-            pos,
-            pipeline,
-            step,
-            kit,
-        } => {
-            let at = StepAt { rid, pos, pipeline };
-            do_step(alloc, sched, cores, session, gate, at, step, kit)
-        }
-        Job::Analyze { rid } => report_analyzed(alloc, sched, 0, rid),
-    }
+    let _known = sched.history();
+    let owner = Owner {
+        units: session.budget,
+    };
+    let report = do_task(&owner, alloc, cores, session, gate, 0, task)?;
+    write_report(alloc, sched, 0, report)
 }

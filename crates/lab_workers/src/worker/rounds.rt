@@ -1,19 +1,19 @@
 // The rounds of a worker.
 
 ghost use Rattle.std.specs.Prelude.{[], ◌∷◌, IfOk, OnErr, OnOk};
+ghost use Rattle.stage_work.specs.Tasks.{IsTaskIn, job_of};
 ghost use Rattle.lab_workers.specs.Leaving.{IsLeft, IsLeftWith};
 ghost use Rattle.lab_workers.specs.Rounds.{ComesTo, GoesOn, HasRound, HasWorked};
-ghost use Rattle.lab_workers.specs.Tasks.{IsTaskIn, job_of};
 ghost use Rattle.lab_workers.specs.Turns.{HasTaken};
 ghost use Rattle.lab_workers.specs.Workers.{AreDesksOf, IsAtRest, IsWorkerAt, sched_entries};
 
 use super::{WorkEnd, Worker};
+use crate::at_desks::AtDesks;
 use crate::idling::{give_way, let_all_tick};
-use crate::preparing::do_preparation;
 use crate::reporting::tell;
-use crate::tasks::{Report, Task, Turn};
-use crate::turns::next_turn;
+use crate::turns::{Turn, next_turn};
 use lab_kits::Gate;
+use stage_work::{Task, do_task};
 use std::alloc::{AllocError, Global};
 use std::sync::Wait;
 use worker_desks::Desks;
@@ -88,18 +88,20 @@ impl Worker {
         ensures rests { OnOk result (ComesTo desks.now.session (job_of task ∷ []) (IsAtRest desks.now.session) self.old self.new) }
         ensures left { OnErr result (ComesTo desks.now.session (job_of task ∷ []) (IsLeftWith desks.now task) self.old self.new) }
     {
-        match task {
-            Task::Prepare { rid, run } => {
-                do_preparation(rt, alloc, desks, gate, &mut self.sched, rid, run)
-            }
-            Task::Step(step) => self.do_step(rt, alloc, desks, gate, step),
-            Task::Analyze { rid } => tell(
-                rt,
-                alloc,
-                desks,
-                &mut self.sched,
-                Report::Analyzed { rid },
-            ),
-        }
+        let runner = AtDesks {
+            rt,
+            desks,
+            number: self.number,
+        };
+        let report = do_task(
+            &runner,
+            alloc,
+            self.cores.as_mut_slice(),
+            &desks.session,
+            gate,
+            self.number,
+            task,
+        )?;
+        tell(rt, alloc, desks, &mut self.sched, report)
     }
 }

@@ -1,6 +1,6 @@
 use Rattle.std.proofs.Common.{◌∙◌}
 use Rattle.std.proofs.lemmas.Result.{on_err_weaker, on_ok_weaker}
-use Rattle.lab_workers.specs.Reports.{act_told, job_told}
+use Rattle.stage_work.specs.Reports.{act_told, job_told}
 use Rattle.lab_workers.proofs.Holdings.{follows-put, put-grew}
 use Rattle.lab_workers.proofs.Telling.{has-told, tell-flies, tell-right, told-or-not, untold}
 use Rattle.lab_workers.proofs.reporting.tell.Goals as goal

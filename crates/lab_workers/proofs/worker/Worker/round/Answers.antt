@@ -2,11 +2,11 @@ use Rattle.std.proofs.Common.{length, List, [], ◌∷◌, sym, ap, subst, ◌�
 use Rattle.std.proofs.lemmas.List.{take_at}
 use Rattle.desk_rule.specs.Histories.{Each}
 use Rattle.desk_kernels.specs.Chairs.{CoreChair}
-use Rattle.lab_workers.specs.declared.tasks.Turn.TheVariants as turn
+use Rattle.lab_workers.specs.declared.turns.Turn.TheVariants as turn
 use Rattle.lab_workers.specs.Idling.{AreAt, HaveWaited}
 use Rattle.lab_workers.specs.Leaving.{IsLeft}
 use Rattle.lab_workers.specs.Rounds.{GoesOn, KeepsRest}
-use Rattle.lab_workers.specs.Tasks.{job_of}
+use Rattle.stage_work.specs.Tasks.{job_of}
 use Rattle.lab_workers.specs.Workers.{IsAtRest, IsFree, WorkerValue}
 use Rattle.stage_work.proofs.Done.{on-err}
 use Rattle.lab_workers.proofs.Leaving.{comes-left, rests-left}

@@ -2,7 +2,7 @@
 
 ghost use Rattle.sched_core.specs.Scheds.{HasCall};
 ghost use Rattle.lab_kits.specs.Kits.{KitCall};
-ghost use Rattle.lab_workers.specs.Stepping.{IsStartFor};
+ghost use Rattle.stage_work.specs.Starting.{IsStartFor};
 
 use exp_model::HostStep;
 use lab_kits::Kit;

@@ -7,7 +7,7 @@ use sched_core::KernelResult;
 
 /// A step of a run, with what belongs to it.
 #[derive(Drop)]
-pub(crate) struct StepTask {
+pub struct StepTask {
     /// The number of the run.
     pub rid: u64,
     /// The position of the step in the run's list, from 0.
@@ -22,7 +22,7 @@ pub(crate) struct StepTask {
 
 /// A job, which the worker has taken.
 #[derive(Drop)]
-pub(crate) enum Task {
+pub enum Task {
     /// To prepare this run.
     Prepare { rid: u64, run: Run },
     /// To do this step.
@@ -31,22 +31,9 @@ pub(crate) enum Task {
     Analyze { rid: u64 },
 }
 
-/// What a worker finds at the scheduler's desk.
-#[derive(Drop)]
-pub(crate) enum Turn {
-    /// A job.
-    Job(Task),
-    /// Nothing before a job of another is reported.
-    Idle,
-    /// Nothing is left to do.
-    Over,
-    /// The scheduler was halted, by this chair.
-    Stopped { by: u32 },
-}
-
 /// What became of a job.
 #[derive(Drop)]
-pub(crate) enum Report {
+pub enum Report {
     /// The run was prepared, and this is its kit.
     Prepared {
         rid: u64,

@@ -1,6 +1,6 @@
 use Rattle.std.proofs.lemmas.Bool.{false≢true}
 use Rattle.stage_work.proofs.Done.{called}
-use Rattle.lab_workers.proofs.starting.start_for.Goals as goal
+use Rattle.stage_work.proofs.starting.start_for.Goals as goal
 
 -- the kit has the function that the step calls
 pub unreachable-requires : goal.unreachable-requires
