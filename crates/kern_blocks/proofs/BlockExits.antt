@@ -1,5 +1,5 @@
 -- What the reading functions of blocks need at their exits.
-use Rattle.std.proofs.Common.{◌≡◌, ◌≢◌, ℕ, suc, ◌-◌, ◌≤◌, sym, ◌∙◌, ap, subst, arith, length, get_or, drop}
+use Rattle.std.proofs.Common.{◌≡◌, ◌≢◌, ℕ, zero, suc, ◌-◌, ◌≤◌, sym, ◌∙◌, ap, subst, arith, length, get_or, drop}
 use Rattle.std.specs.Prelude.{Option, Result}
 use Rattle.kern_lexer.specs.declared.token.Key.TheVariants as K
 use Rattle.kern_lexer.specs.declared.token.TokenKind.TheVariants as T
@@ -12,7 +12,7 @@ use Rattle.kern_expressions.specs.declared.tokens.WrongToken.{WrongToken}
 use Rattle.kern_grammar.specs.BlockPlans.{block_by, block_plan, elif_plan, statement_plan, line_plan}
 use Rattle.kern_blocks.specs.BlockSteps.{as_block, elif_line, elif_parts}
 use Rattle.kern_grammar.specs.Plans.{peek, run}
-use Rattle.kern_grammar.specs.SimplePlans.{simple_plan}
+use Rattle.kern_grammar.specs.SimplePlans.{by_expression, simple_plan}
 use Rattle.kern_expressions.specs.TakenBy.{GivesTaken, lexemes_left, perform}
 use Rattle.kern_statements.specs.LineSteps.{line_of_statement, on}
 use Rattle.kern_grammar.specs.Views.{is_seen, line_end, opening}
@@ -57,6 +57,17 @@ any_statement room tokens outcome n h g =
     ∙ perform-run (line_plan (suc below)) (lexemes_left tokens)
     ∙ ap (λ r. run (line_plan r) (lexemes_left tokens)) up in
     subst (GivesTaken line_of_statement outcome) same g
+
+-- a statement that begins with a name is one that begins with an expression
+pub named_line : (room : ℕ) (tokens : Tokens) → 1 ≤ length tokens.list.now → first_kind tokens ≡ T.Name → run (line_plan room) (lexemes_left tokens) ≡ perform (by_expression (on (first_line tokens))) (lexemes_left tokens)
+named_line zero tokens h k =
+    sym (perform-run (line_plan 0) (lexemes_left tokens))
+    ∙ peeked (λ t. simple_plan (λ s. (t.line, s)) (opening t.symbol)) tokens h
+    ∙ ap (λ q. perform (simple_plan (on (first_line tokens)) (opening (first_as tokens q).symbol)) (lexemes_left tokens)) k
+named_line (suc room) tokens h k =
+    sym (perform-run (line_plan (suc room)) (lexemes_left tokens))
+    ∙ peeked (λ t. statement_plan room (run (line_plan room)) t.line (opening t.symbol)) tokens h
+    ∙ ap (λ q. perform (statement_plan room (run (line_plan room)) (first_line tokens) (opening (first_as tokens q).symbol)) (lexemes_left tokens)) k
 
 -- an `elif` branch
 pub elif_branch : (room : ℕ) (tokens rest : Tokens) (outcome : Result (Option Elif × Tokens) WrongToken) → 1 ≤ length tokens.list.now → first_kind tokens ≡ T.Key K.Elif → lexemes_left rest ≡ drop 1 (lexemes_left tokens) → GivesTaken elif_line outcome (perform (elif_parts room (first_line tokens)) (lexemes_left rest)) → GivesTaken elif_line outcome (run (elif_plan room (run (line_plan room))) (lexemes_left tokens))

@@ -2,15 +2,16 @@
 //
 // The room of a statement is the number of blocks in one another that it may still hold.
 
-ghost use Rattle.std.specs.Prelude.{◌≡◌, map};
+ghost use Rattle.std.specs.Prelude.{◌≡◌, List, map};
 ghost use Rattle.kern_grammar.specs.BlockPlans.{block_plan, is_line, line_plan, statement_plan};
 ghost use Rattle.kern_grammar.specs.Plans.{peek, run};
-ghost use Rattle.kern_grammar.specs.SimplePlans.{simple_plan};
+ghost use Rattle.kern_grammar.specs.SimplePlans.{Line, simple_plan};
 ghost use Rattle.kern_grammar.specs.Views.{opening};
 ghost use Rattle.kern_blocks.specs.BlockSteps.{as_block, colon_block, conditional, conditional_of, for_plan, indented_plan, while_plan, with_block_plan, with_rest};
+ghost use Rattle.kern_expressions.specs.Kept.{KeptAs};
 ghost use Rattle.kern_expressions.specs.TakenBy.{GivesTaken, begins_with, lexemes_left, perform};
 ghost use Rattle.kern_statements.specs.LineSteps.{line_of_statement};
-ghost use Rattle.kern_statements.specs.Several.{several};
+ghost use Rattle.kern_statements.specs.Several.{one_behind, several};
 ghost use Rattle.kern_syntax.specs.TreeOf.{block_of};
 
 use crate::branches::{if_at, try_at};
@@ -21,7 +22,7 @@ use kern_expressions::{
     Tokens, WrongToken, colon_at, dedent_at, expression_at, indent_at, name_at, pushed,
 };
 use kern_lexer::{Key, TokenKind};
-use kern_statements::{WithItem, bounds_at, simple_at, with_item_at};
+use kern_statements::{WithItem, bounds_at, expression_behind, simple_at, with_item_at};
 use kern_syntax::{Block, Stmt};
 use std::alloc::Global;
 
@@ -97,12 +98,53 @@ fn statements_at<'a>(
     let mut statements = Some(Vec::new(alloc));
     let mut rest = tokens;
     'lines: loop {
-        let (statement, behind) = statement_at(alloc, room, rest)?;
-        statements = pushed(statements, statement);
+        let (more, behind) = statement_behind(alloc, room, statements, rest)?;
+        statements = more;
         if !begins_line(behind) {
             return Ok((statements, behind));
         }
         rest = behind;
+    }
+}
+
+// One more statement behind others.
+#[cycle(blocks)]
+#[inline(always)]
+fn statement_behind<'a>(
+    alloc: Global,
+    room: u32,
+    others: Option<Vec<Stmt>>,
+    tokens: Tokens<'a>,
+) -> Result<(Option<Vec<Stmt>>, Tokens<'a>), WrongToken<'a>>
+    ensures { (xs : List Line) → KeptAs (λ v. map line_of_statement v.items) others xs →
+        GivesTaken (λ v. map line_of_statement v.items) result
+        (one_behind xs (run (line_plan room) (lexemes_left tokens.entry))) }
+{
+    match tokens.list {
+        [] => Err(WrongToken { left: tokens }),
+        [first, ..] => match first.kind {
+            TokenKind::Name => expression_behind(alloc, first.line, others, tokens),
+            _ => other_behind(alloc, room, others, tokens),
+        },
+    }
+}
+
+// The same, where it doesn't begin with a name.
+#[cycle(blocks)]
+#[inline(always)]
+fn other_behind<'a>(
+    alloc: Global,
+    room: u32,
+    others: Option<Vec<Stmt>>,
+    tokens: Tokens<'a>,
+) -> Result<(Option<Vec<Stmt>>, Tokens<'a>), WrongToken<'a>>
+    ensures { (xs : List Line) → KeptAs (λ v. map line_of_statement v.items) others xs →
+        GivesTaken (λ v. map line_of_statement v.items) result
+        (one_behind xs (run (line_plan room) (lexemes_left tokens.entry))) }
+{
+    match statement_at(alloc, room, tokens) {
+        Err(wrong) => Err(wrong),
+        Ok((statement, rest)) => Ok((pushed(others, statement), rest)),
     }
 }
 

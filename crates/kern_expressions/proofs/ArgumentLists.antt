@@ -1,17 +1,20 @@
 -- The arguments of a call, read one after another in a loop.
-use Rattle.std.proofs.Common.{◌≡◌, ℕ, zero, suc, ◌<◌, Bool, true, false, List, [], ◌∷◌, ◌++◌, map, refl, sym, ◌∙◌, ap, arith, rules, length, length-append}
+use Rattle.std.proofs.Common.{◌≡◌, ◌≢◌, ◌-◌, ℕ, zero, suc, ◌<◌, Bool, true, false, List, [], ◌∷◌, ◌++◌, map, refl, sym, ◌∙◌, ap, arith, rules, length, length-append}
 use Rattle.std.specs.Prelude.{Option, Some, None, Ok, Err}
-use Rattle.kern_lexer.specs.Symbols.{Symbol, sign}
+use Rattle.kern_lexer.specs.Symbols.{Symbol, number, sign}
 use Rattle.kern_lexer.specs.declared.token.Sign.TheVariants as S
-use Rattle.kern_syntax.specs.Tree.{Arguments, no_more}
+use Rattle.kern_syntax.specs.Tree.{Arguments, integer, no_more}
 use Rattle.kern_syntax.specs.TreeOf.{argument_of, arguments_of}
 use Rattle.kern_syntax.specs.declared.expression.Argument.{Argument}
 use Rattle.kern_syntax.specs.declared.expression.Argument.TheFolds.{the_lemmas}
 use Rattle.kern_syntax.specs.declared.expression.Argument.TheVariants as A
+use Rattle.kern_syntax.specs.declared.expression.Expr.TheVariants as X
 use Rattle.kern_expressions.specs.Kept.{KeptAs, item_of}
-use Rattle.kern_grammar.specs.Reading.{Read, Inside, ◌>>=◌, Item, item_then, item, items, items_behind, comma_or_close, inside_of}
+use Rattle.kern_expressions.specs.Passing.{argument_ended}
+use Rattle.kern_grammar.specs.Reading.{Read, Inside, ◌>>=◌, Item, value, item_then, item, items, items_behind, comma_or_close, inside_of}
 use Rattle.kern_grammar.proofs.ArgumentFaults.{inside_reads}
-use Rattle.kern_expressions.proofs.Exits.{end_passes}
+use Rattle.kern_expressions.proofs.Exits.{end_passes, value_read}
+use Rattle.kern_expressions.proofs.Passing.{integer-alone}
 use Rattle.kern_grammar.proofs.FirstSymbols.{item_symbols}
 use Rattle.kern_grammar.proofs.Items.{item_found}
 use Rattle.kern_grammar.proofs.RowFaults.{ok_pair}
@@ -141,3 +144,11 @@ comma_ended inside end done a rest behind whole (suc most) enough same h k =
 
 pub comma_end : (inside : Inside) (end : List Symbol) (done : List Item) (a : Item) (rest behind : List Symbol) (whole : Read Arguments) → ArgumentsSoFar inside done rest whole → item inside rest ≡ Ok (a, behind) → comma_or_close behind ≡ Err end → whole ≡ Err end
 comma_end inside end done a rest behind whole s h k = comma_ended inside end done a rest behind whole s.most s.enough s.same h k
+
+-- an integer that ends there is an argument
+pub integer-argument : (room n : ℕ) (rest : List Symbol) → room ≢ 0 → argument_ended rest ≡ true → item (inside_of room) (number n ∷ rest) ≡ Ok (value (integer n), rest)
+integer-argument room n rest h e =
+    value_read room (number n ∷ rest) h ∙ ap (λ r. r >>= λ x. Ok (value x.0, x.1)) (integer-alone (inside_of (room - 1)) n rest e)
+
+pub integer-kept : (n : ℕ) → item_of (A.Value (X.Integer n)) ≡ value (integer n)
+integer-kept n = search (rules, the_lemmas)

@@ -4,10 +4,10 @@ use Rattle.std.proofs.lemmas.Bool.{ne_eqb, le-leb, leb-true}
 use Rattle.std.proofs.lemmas.Bool.Decides.{eqb_tells}
 use Rattle.std.specs.Option.{unwrap_or}
 use Rattle.std.specs.Prelude.{Option, Some, None, Ok, Err, is_some, min, not, ◌==◌}
-use Rattle.kern_lexer.specs.Symbols.{Symbol, key, sign}
+use Rattle.kern_lexer.specs.Symbols.{Symbol, key, number, sign}
 use Rattle.kern_lexer.specs.declared.token.Key.TheVariants as K
 use Rattle.kern_lexer.specs.declared.token.Sign.TheVariants as S
-use Rattle.kern_syntax.specs.Tree.{Expression, compare}
+use Rattle.kern_syntax.specs.Tree.{Expression, compare, integer}
 use Rattle.kern_syntax.specs.declared.expression.Comparison.{Comparison}
 use Rattle.kern_syntax.specs.declared.expression.Comparison.TheVariants as C
 use Rattle.kern_grammar.specs.declared.joiner.Joiner.{Joiner}
@@ -17,7 +17,7 @@ use Rattle.kern_grammar.specs.Reading.{Reader, Inside, ◌>>=◌, choose, kind_o
 use Rattle.kern_grammar.proofs.Comparisons.{first_comparison-some}
 use Rattle.kern_grammar.proofs.Joiners.{continues_at-joiner, first_joiner-some}
 use Rattle.kern_grammar.proofs.RowReads.{row_behind-none, then_ok}
-use Rattle.kern_expressions.specs.Passing.{level_of_symbol, operator_level, front_level, behind_operand}
+use Rattle.kern_expressions.specs.Passing.{argument_ended, level_of_symbol, operator_level, front_level, behind_operand}
 use Rattle.kern_expressions.proofs.Exits.{end_passes}
 
 -- the first joiner of a level is an operator of that level
@@ -190,3 +190,15 @@ front-known level symbols a b = elim ((front_by level symbols (nat_le 9 level) (
   | inl q ↦ absurd (b q)
   | inr q ↦ omega (arith, q, a)
 ]
+
+-- an integer before what is no operator is the whole expression
+integer-before : (inside : Inside) (n : ℕ) (s : Symbol) (rest : List Symbol) → operator_level (s ∷ rest) ≡ 0 → level_reader inside 1 (number n ∷ s ∷ rest) ≡ Ok (integer n, s ∷ rest) → level_reader inside 11 (number n ∷ s ∷ rest) ≡ Ok (integer n, s ∷ rest)
+integer-before inside n s rest none h =
+    levels-passed inside 11 1 (number n ∷ s ∷ rest) (s ∷ rest) (integer n) (front-reaches 11 (number n ∷ s ∷ rest)) (λ k a b q. omega (arith, a, q, none)) h
+
+-- so it is before what ends an argument
+pub integer-alone : (inside : Inside) (n : ℕ) (rest : List Symbol) → argument_ended rest ≡ true → level_reader inside 11 (number n ∷ rest) ≡ Ok (integer n, rest)
+integer-alone inside n [] h = absurd cc
+integer-alone inside n (sign S.Comma ∷ rest) h = integer-before inside n (sign S.Comma) rest refl refl
+integer-alone inside n (sign S.CloseParenthesis ∷ rest) h = integer-before inside n (sign S.CloseParenthesis) rest refl refl
+integer-alone inside n (s ∷ rest) h = absurd cc

@@ -12,6 +12,7 @@ ghost use Rattle.kern_syntax.specs.Tree.{Expression, element, group};
 ghost use Rattle.kern_syntax.specs.TreeOf.{arguments_of};
 
 use crate::expression::{LOOSEST, level_at};
+use crate::operator::begins_with_argument_end;
 use crate::parts::{
     ReadExpr, argument, called, grouped, identifier, indexed, method_called, named, pushed,
 };
@@ -22,6 +23,7 @@ use rtio_types::Name;
 use std::alloc::Global;
 
 // What is read up to a closing parenthesis.
+#[inline(always)]
 fn close_parenthesis<'a>(
     e: ReadExpr,
     tokens: Tokens<'a>,
@@ -39,6 +41,7 @@ fn close_parenthesis<'a>(
 }
 
 // What is read up to a closing bracket.
+#[inline(always)]
 fn close_bracket<'a>(
     e: ReadExpr,
     tokens: Tokens<'a>,
@@ -69,6 +72,7 @@ pub fn atom_at<'a>(
     ended_atom(e, behind)
 }
 
+#[inline(always)]
 fn ended_atom<'a>(e: ReadExpr, tokens: Tokens<'a>) -> Result<(ReadExpr, Tokens<'a>), WrongToken<'a>>
     ensures { (tree : Expression) → ReadAs e tree →
         GivesExpression result (ended tree (symbols_left tokens.entry)) }
@@ -119,6 +123,7 @@ fn bare_atom_at<'a>(
 
 // An expression in parentheses, of which the opening one is the first token.
 #[cycle(levels)]
+#[inline(always)]
 fn group_at<'a>(
     alloc: Global,
     room: u32,
@@ -136,6 +141,7 @@ fn group_at<'a>(
 
 // An element of an array, from the opening bracket of its index on.
 #[cycle(levels)]
+#[inline(always)]
 fn element_at<'a>(
     alloc: Global,
     room: u32,
@@ -183,6 +189,7 @@ fn named_at<'a>(
 
 // The method of an object, from what follows the dot on.
 #[cycle(levels)]
+#[inline(always)]
 fn method_at<'a>(
     alloc: Global,
     room: u32,
@@ -207,6 +214,7 @@ fn method_at<'a>(
 
 // A call of a method, from what follows its name on.
 #[cycle(levels)]
+#[inline(always)]
 fn called_method_at<'a>(
     alloc: Global,
     room: u32,
@@ -233,6 +241,7 @@ fn called_method_at<'a>(
 }
 
 /// What stands behind an argument: a comma, so that another follows, or the closing parenthesis.
+#[inline(always)]
 pub fn comma_or_close<'a>(tokens: Tokens<'a>) -> Result<(bool, Tokens<'a>), WrongToken<'a>>
     ensures { FindsRead (λ more. more) result (comma_or_close (symbols_left tokens.entry)) }
 {
@@ -312,6 +321,14 @@ fn argument_at<'a>(
             TokenKind::Text => {
                 let name = quoted_name(tokens, first.at, first.len);
                 Ok((Some(Argument::Text(name)), tokens.tail()))
+            }
+            TokenKind::Integer(n) => {
+                let behind = tokens.tail();
+                if begins_with_argument_end(behind) && room > 0 {
+                    Ok((Some(Argument::Value(Expr::Integer(n))), behind))
+                } else {
+                    value_at(alloc, room, tokens)
+                }
             }
             _ => value_at(alloc, room, tokens),
         },

@@ -36,10 +36,25 @@ pub fn front_level(level: u32, tokens: Tokens) -> u32
     }
 }
 
-/// An expression at a level. Only a level of which an operator stands there is entered: the others
-/// read what the next tighter one reads.
+/// An expression at a level.
 #[cycle(levels)]
 pub fn level_at<'a>(
+    alloc: Global,
+    room: u32,
+    level: u32,
+    tokens: Tokens<'a>,
+) -> Result<(ReadExpr, Tokens<'a>), WrongToken<'a>>
+    requires { level ≤ 11 }
+    ensures { GivesExpression result (level_reader (inside_of room) level (symbols_left tokens.entry)) }
+{
+    level_here_at(alloc, room, level, tokens)
+}
+
+// The same, put into its caller. Only a level of which an operator stands there is entered: the
+// others read what the next tighter one reads.
+#[cycle(levels)]
+#[inline(always)]
+fn level_here_at<'a>(
     alloc: Global,
     room: u32,
     level: u32,
@@ -88,6 +103,7 @@ fn front_at<'a>(
 
 // What goes on with an operand at a level, of which an operator stands there.
 #[cycle(levels)]
+#[inline(always)]
 fn operators_at<'a>(
     alloc: Global,
     room: u32,
@@ -108,6 +124,7 @@ fn operators_at<'a>(
 
 // A row of operators of a level, behind its first operand.
 #[cycle(levels)]
+#[inline(always)]
 fn row_at<'a>(
     alloc: Global,
     room: u32,
@@ -162,6 +179,7 @@ fn prefixed_at<'a>(
 
 // A comparison that no other follows, behind its left operand.
 #[cycle(levels)]
+#[inline(always)]
 fn compared_at<'a>(
     alloc: Global,
     room: u32,
@@ -180,6 +198,7 @@ fn compared_at<'a>(
 }
 
 // A comparison, unless another follows it.
+#[inline(always)]
 fn ended_comparison<'a>(
     e: ReadExpr,
     tokens: Tokens<'a>,
@@ -195,6 +214,7 @@ fn ended_comparison<'a>(
 
 // `not` and its operand, or a comparison.
 #[cycle(levels)]
+#[inline(always)]
 fn negation_at<'a>(
     alloc: Global,
     room: u32,
@@ -226,6 +246,24 @@ pub fn expression_at<'a>(
         Ok((e, rest)) => Ok((e, tokens.last(rest.list.len()))),
         Err(wrong) => Err(WrongToken {
             left: tokens.last(wrong.left.list.len()),
+        }),
+    }
+}
+
+/// The same, put into its caller, with no call on the way to a name with its arguments. It is long,
+/// so it is for the one place at which most expressions of a text begin.
+#[inline(always)]
+pub fn expression_here_at<'a>(
+    alloc: Global,
+    room: u32,
+    tokens: Tokens<'a>,
+) -> Result<(ReadExpr, Tokens<'a>), WrongToken<'a>>
+    ensures { TakesExpression result (take_expression room (lexemes_left tokens.entry)) }
+{
+    match level_here_at(alloc, room, LOOSEST, tokens) {
+        Ok((e, behind)) => Ok((e, tokens.last(behind.list.len()))),
+        Err(end) => Err(WrongToken {
+            left: tokens.last(end.left.list.len()),
         }),
     }
 }

@@ -14,7 +14,7 @@ mod tokens;
 mod words;
 
 pub use atom::quoted_name;
-pub use expression::expression_at;
+pub use expression::{expression_at, expression_here_at};
 pub use marks::{
     close_bracket_at, close_parenthesis_at, colon_at, dedent_at, def_at, dot_at, in_at, indent_at,
     line_end_at, open_parenthesis_at,

@@ -5,7 +5,7 @@ ghost use Rattle.kern_lexer.specs.Symbols.{symbol_of};
 ghost use Rattle.kern_lexer.specs.Bytes.{Bytes};
 ghost use Rattle.std.specs.Prelude.{Some, None, if◌then◌else◌, option_map};
 ghost use Rattle.kern_expressions.specs.Given.{symbols_left};
-ghost use Rattle.kern_expressions.specs.Passing.{level_of_symbol, operator_level};
+ghost use Rattle.kern_expressions.specs.Passing.{argument_ended, ends_argument, level_of_symbol, operator_level};
 ghost use Rattle.kern_grammar.specs.Operators.{first_joiner, if_of_level, joiner_of, joiner_level, comparison_of};
 ghost use Rattle.kern_grammar.specs.Reading.{first_comparison, first_form, not_at, prefix_form, unary_at};
 ghost use Rattle.kern_syntax.specs.Tree.{negation};
@@ -169,5 +169,21 @@ pub fn begins_with_not(tokens: Tokens) -> bool
     match tokens.list {
         [] => false,
         [first, ..] => is_not(first.kind),
+    }
+}
+
+fn ends_argument(kind: TokenKind) -> bool
+    ensures { (text : Bytes) (at len : ℕ) → result ≡ ends_argument (symbol_of text at len kind) }
+{
+    matches!(kind, TokenKind::Sign(Sign::Comma | Sign::CloseParenthesis))
+}
+
+/// Whether the tokens begin with what stands behind an argument.
+pub fn begins_with_argument_end(tokens: Tokens) -> bool
+    ensures { result ≡ argument_ended (symbols_left tokens.entry) }
+{
+    match tokens.list {
+        [] => false,
+        [first, ..] => ends_argument(first.kind),
     }
 }

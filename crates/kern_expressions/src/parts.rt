@@ -49,6 +49,7 @@ impl ReadExpr {
 }
 
 // The tree in a box.
+#[inline(always)]
 fn boxed(alloc: Global, e: ReadExpr) -> Option<Box<Expr>>
     ensures { (tree : Expression) → ReadAs e tree → KeptAs (λ b. expression_of b.value) result tree }
 {
@@ -95,6 +96,7 @@ pub fn named(name: Option<Identifier>) -> ReadExpr
 }
 
 /// An element of an array.
+#[inline(always)]
 pub fn indexed(alloc: Global, array: Option<Identifier>, index: ReadExpr) -> ReadExpr
     ensures { (x : Bytes) (i : Expression) → IsNamed array x → ReadAs index i → ReadAs result (element x i) }
 {
@@ -105,6 +107,7 @@ pub fn indexed(alloc: Global, array: Option<Identifier>, index: ReadExpr) -> Rea
 }
 
 /// An expression in parentheses.
+#[inline(always)]
 pub fn grouped(alloc: Global, e: ReadExpr) -> ReadExpr
     ensures { (tree : Expression) → ReadAs e tree → ReadAs result (group tree) }
 {
@@ -115,6 +118,7 @@ pub fn grouped(alloc: Global, e: ReadExpr) -> ReadExpr
 }
 
 /// Two operands with an operator between them.
+#[inline(always)]
 pub fn joined(alloc: Global, joiner: Joiner, left: ReadExpr, right: ReadExpr) -> ReadExpr
     ensures { (a b : Expression) → ReadAs left a → ReadAs right b → ReadAs result (join joiner a b) }
 {
@@ -129,6 +133,7 @@ pub fn joined(alloc: Global, joiner: Joiner, left: ReadExpr, right: ReadExpr) ->
 }
 
 /// Two operands with a comparison between them.
+#[inline(always)]
 pub fn compared(alloc: Global, op: Comparison, left: ReadExpr, right: ReadExpr) -> ReadExpr
     ensures { (a b : Expression) → ReadAs left a → ReadAs right b → ReadAs result (compare op a b) }
 {
@@ -139,6 +144,7 @@ pub fn compared(alloc: Global, op: Comparison, left: ReadExpr, right: ReadExpr) 
 }
 
 /// A prefix before its operand.
+#[inline(always)]
 pub fn with_prefix(alloc: Global, op: UnaryOperator, operand: ReadExpr) -> ReadExpr
     ensures { (e : Expression) → ReadAs operand e → ReadAs result (unary op e) }
 {
@@ -149,6 +155,7 @@ pub fn with_prefix(alloc: Global, op: UnaryOperator, operand: ReadExpr) -> ReadE
 }
 
 /// `not` before its operand.
+#[inline(always)]
 pub fn negated(alloc: Global, operand: ReadExpr) -> ReadExpr
     ensures { (e : Expression) → ReadAs operand e → ReadAs result (negation e) }
 {
@@ -171,6 +178,7 @@ pub fn called(function: Option<Identifier>, arguments: Option<Vec<Argument>>) ->
 }
 
 /// A call of an object's method.
+#[inline(always)]
 pub fn method_called(
     object: Option<Identifier>,
     name: Option<Identifier>,

@@ -1,5 +1,5 @@
 -- Items that are read one after another in a loop.
-use Rattle.std.proofs.Common.{◌≡◌, ◌-◌, ◌<◌, Bool, true, false, List, [], ◌∷◌, ◌++◌, map, refl, sym, ◌∙◌, ap, arith, append-nil, append_assoc, length, length-append}
+use Rattle.std.proofs.Common.{◌≡◌, ◌-◌, ◌<◌, Bool, true, false, List, [], ◌∷◌, ◌++◌, map, refl, sym, ◌∙◌, ap, subst, arith, append-nil, append_assoc, length, length-append}
 use Rattle.std.specs.Prelude.{Option, Some, Result, Ok, Err, IsErrAnd}
 use Rattle.kern_lexer.specs.Symbols.{Symbol, Lexeme}
 use Rattle.kern_grammar.specs.Plans.{Taken, Taker, ◌>>=◌, many_behind, many}
@@ -12,8 +12,8 @@ use Rattle.kern_expressions.proofs.Exits.{found, given, hands_on, refused}
 use Rattle.kern_expressions.proofs.Keeping.{keeps-more}
 use Rattle.kern_statements.proofs.Going.{end_passes}
 use Rattle.kern_grammar.proofs.Many.{BeginsWith, and_more, many-none, many-some, many-next}
-use Rattle.kern_grammar.proofs.Taking.{Takes, then_ok}
-use Rattle.kern_statements.specs.Several.{several}
+use Rattle.kern_grammar.proofs.Taking.{Takes, err_same, ok_same, then_ok}
+use Rattle.kern_statements.specs.Several.{one_behind, several}
 
 -- the items that were read, put before those that are read behind them
 abbrev pub with_first : {X : Type 0} → List X → Taken (List X) → Taken (List X)
@@ -140,3 +140,45 @@ an-item-ends list view test take items tokens whole so_far wrong result e is =
     let left = lexemes_left wrong.left in
     let first = end_passes left (take tokens) (λ x. many test take x.1 >>= λ xs. Ok (x.0 ∷ xs.0, xs.1)) (refused lexemes_left (KeptAs view) wrong (take tokens) e) in
     hands_on lexemes_left (KeptAs (λ v. map view (list v))) result wrong whole is (sym so_far.2 ∙ end_passes left (several test take tokens) (λ xs. Ok (so_far.0 ++ xs.0, xs.1)) first)
+
+-- what one more item behind others tells of the item
+behind-taken : {X : Type 0} (done : List X) (taken : Taken X) (ys : List X) (rest : List Lexeme) → one_behind done taken ≡ Ok (ys, rest) → (x : X) × (taken ≡ Ok (x, rest)) × (ys ≡ done ++ x ∷ [])
+behind-taken done (Ok x) ys rest h =
+    let both = ok_same (one_behind done (Ok x)) (done ++ x.0 ∷ [], x.1) (ys, rest) refl h in
+    (x.0, ap (λ r. Ok (x.0, r)) (ap (λ p. p.1) both), sym (ap (λ p. p.0) both))
+behind-taken done (Err left) ys rest h = let wrong : Err left ≡ Ok (ys, rest) = h in absurd cc
+
+behind-refused : {X : Type 0} (done : List X) (taken : Taken X) (left : List Lexeme) → one_behind done taken ≡ Err left → taken ≡ Err left
+behind-refused done (Ok x) left h = let wrong : Ok (done ++ x.0 ∷ [], x.1) ≡ Err left = h in absurd cc
+behind-refused done (Err end) left h = ap (λ l. Err l) (err_same (one_behind done (Err end)) end left refl h)
+
+-- the same three where the item is put behind the others as soon as it is read
+pub another-behind : {V X Y : Type 0} (list : V → List X) (view : X → Y) (phrase stop : Y → List Lexeme → Type 0) (test : Symbol → Bool) (take : Taker Y) → Takes phrase stop take → Begin phrase test → (items : Option V) (tokens : List Lexeme) (whole : Taken (List Y)) (so_far : SeveralSoFar (λ v. map view (list v)) items test take tokens whole) → (after : Option V) (rest : Tokens) → Gives lexemes_left (KeptAs (λ v. map view (list v))) (Ok (after, rest)) (one_behind so_far.0 (take tokens)) → begins_with test (lexemes_left rest) ≡ true → SeveralSoFar (λ v. map view (list v)) after test take (lexemes_left rest) whole
+another-behind list view phrase stop test take takes begin items tokens whole so_far after rest h b =
+    let left = lexemes_left rest in
+    let ys = found lexemes_left (KeptAs (λ v. map view (list v))) after rest (one_behind so_far.0 (take tokens)) h in
+    let y = behind-taken so_far.0 (take tokens) ys.0 left ys.2 in
+    let more = several-by phrase stop test take takes begin left b (take left) refl in
+    (so_far.0 ++ y.0 ∷ [], subst (KeptAs (λ v. map view (list v)) after) y.2 ys.1, ap (with_first (so_far.0 ++ y.0 ∷ [])) (sym more) ∙ several-taken test take so_far.0 tokens left y.0 whole so_far.2 y.1)
+
+pub last-behind : {V X Y : Type 0} (list : V → List X) (view : X → Y) (test : Symbol → Bool) (take : Taker Y) (items : Option V) (tokens : List Lexeme) (whole : Taken (List Y)) (so_far : SeveralSoFar (λ v. map view (list v)) items test take tokens whole) → (after : Option V) (rest : Tokens) → Gives lexemes_left (KeptAs (λ v. map view (list v))) (Ok (after, rest)) (one_behind so_far.0 (take tokens)) → begins_with test (lexemes_left rest) ≡ false → Gives lexemes_left (KeptAs (λ v. map view (list v))) (Ok (after, rest)) whole
+last-behind list view test take items tokens whole so_far after rest h b =
+    let ys = found lexemes_left (KeptAs (λ v. map view (list v))) after rest (one_behind so_far.0 (take tokens)) h in
+    let y = behind-taken so_far.0 (take tokens) ys.0 (lexemes_left rest) ys.2 in
+    let done = so_far.0 ++ y.0 ∷ [] in
+    given lexemes_left (KeptAs (λ v. map view (list v))) after rest whole done (subst (KeptAs (λ v. map view (list v)) after) y.2 ys.1)
+    (sym (several-taken test take so_far.0 tokens (lexemes_left rest) y.0 whole so_far.2 y.1) ∙ ap (with_first done) (none_left test take (lexemes_left rest) b) ∙ ap (λ xs. Ok (xs, lexemes_left rest)) (append-nil done))
+
+pub behind-ends : {V X Y : Type 0} (list : V → List X) (view : X → Y) (test : Symbol → Bool) (take : Taker Y) (items : Option V) (tokens : List Lexeme) (whole : Taken (List Y)) (so_far : SeveralSoFar (λ v. map view (list v)) items test take tokens whole) → (wrong : WrongToken) (result : Result (Option V × Tokens) WrongToken) → Gives lexemes_left (KeptAs (λ v. map view (list v))) (Err wrong) (one_behind so_far.0 (take tokens)) → IsErrAnd result (λ w. w ≡ wrong) → Gives lexemes_left (KeptAs (λ v. map view (list v))) result whole
+behind-ends list view test take items tokens whole so_far wrong result e is =
+    let left = lexemes_left wrong.left in
+    let one = behind-refused so_far.0 (take tokens) left (refused lexemes_left (KeptAs (λ v. map view (list v))) wrong (one_behind so_far.0 (take tokens)) e) in
+    let first = end_passes left (take tokens) (λ x. many test take x.1 >>= λ xs. Ok (x.0 ∷ xs.0, xs.1)) one in
+    hands_on lexemes_left (KeptAs (λ v. map view (list v))) result wrong whole is (sym so_far.2 ∙ end_passes left (several test take tokens) (λ xs. Ok (so_far.0 ++ xs.0, xs.1)) first)
+
+pub behind_shorter : {V X Y : Type 0} (list : V → List X) (view : X → Y) (phrase stop : Y → List Lexeme → Type 0) (test : Symbol → Bool) (take : Taker Y) → Takes phrase stop take → Begin phrase test → (done : List Y) (tokens : List Lexeme) (after : Option V) (rest : Tokens) → Gives lexemes_left (KeptAs (λ v. map view (list v))) (Ok (after, rest)) (one_behind done (take tokens)) → length (lexemes_left rest) < length tokens
+behind_shorter list view phrase stop test take takes begin done tokens after rest h =
+    let ys = found lexemes_left (KeptAs (λ v. map view (list v))) after rest (one_behind done (take tokens)) h in
+    let x = behind-taken done (take tokens) ys.0 (lexemes_left rest) ys.2 in
+    let f = takes.found tokens x.0 (lexemes_left rest) x.1 in
+    omega (arith, ap length f.whole, shorter_by test f.front (lexemes_left rest) (begin x.0 f.front f.is_phrase))

@@ -35,6 +35,7 @@ fn ended_statement<'a>(
 }
 
 // The value of an assignment, and the end of the line.
+#[inline(always)]
 fn assigned_value_at<'a>(
     alloc: Global,
     line: u32,
@@ -49,6 +50,7 @@ fn assigned_value_at<'a>(
 }
 
 // The value of an augmented assignment, and the end of the line.
+#[inline(always)]
 fn augmented_value_at<'a>(
     alloc: Global,
     line: u32,
@@ -64,6 +66,7 @@ fn augmented_value_at<'a>(
 }
 
 // The value of a `return`, or none, and the end of the line.
+#[inline(always)]
 fn returned_at<'a>(
     alloc: Global,
     line: u32,
@@ -85,6 +88,7 @@ fn returned_at<'a>(
 }
 
 // The value of a `return`, and the end of the line.
+#[inline(always)]
 fn returned_value_at<'a>(
     alloc: Global,
     line: u32,
@@ -98,6 +102,7 @@ fn returned_value_at<'a>(
 }
 
 // The length of an array of one repeated element, and the end of the line.
+#[inline(always)]
 fn repeated_at<'a>(
     line: u32,
     name: Option<Identifier>,
@@ -119,6 +124,7 @@ fn repeated_at<'a>(
 }
 
 // An array of one element or of one that is repeated, from the closing bracket on.
+#[inline(always)]
 fn lone_element_at<'a>(
     alloc: Global,
     line: u32,
@@ -134,6 +140,7 @@ fn lone_element_at<'a>(
 }
 
 // What follows the closing bracket of an array of one element.
+#[inline(always)]
 fn one_element_at<'a>(
     alloc: Global,
     line: u32,
@@ -183,9 +190,9 @@ pub fn begins_with_comma(tokens: Tokens) -> bool
     }
 }
 
-// An assignment to a name or to an element, or an expression alone, by what follows the
-// expression that the statement begins with.
-fn deed_at<'a>(
+/// An assignment to a name or to an element, or an expression alone, by what follows the
+/// expression that the statement begins with.
+pub(crate) fn deed_at<'a>(
     alloc: Global,
     line: u32,
     e: ReadExpr,
@@ -220,6 +227,7 @@ fn deed_at<'a>(
 }
 
 // The value of an assignment: an array or an expression for a name, an expression for an element.
+#[inline(always)]
 fn assigned_at<'a>(
     alloc: Global,
     line: u32,
@@ -241,6 +249,7 @@ fn assigned_at<'a>(
 }
 
 // The value of an assignment to a name: an array or an expression.
+#[inline(always)]
 fn name_assigned_at<'a>(
     alloc: Global,
     line: u32,
@@ -264,6 +273,7 @@ fn name_assigned_at<'a>(
 
 // The elements of an array, of which the first is an expression, with the closing bracket and
 // the end of the line. An element that stands alone may be repeated.
+#[inline(always)]
 fn array_at<'a>(
     alloc: Global,
     line: u32,
@@ -283,6 +293,7 @@ fn array_at<'a>(
 
 // The elements of an array behind its first, of which there is one at least, with the closing
 // bracket and the end of the line.
+#[inline(always)]
 fn elements_at<'a>(
     alloc: Global,
     line: u32,

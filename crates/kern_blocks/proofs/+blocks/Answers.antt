@@ -23,13 +23,14 @@ use Rattle.kern_expressions.specs.declared.tokens.Tokens.{Tokens}
 use Rattle.kern_expressions.specs.declared.tokens.WrongToken.{WrongToken}
 use Rattle.kern_statements.specs.Headers.{BoundTrees, bounds_of, bounds_plan, with_item_plan}
 use Rattle.kern_statements.specs.LineSteps.{line_of_statement, on}
-use Rattle.kern_statements.specs.Several.{several}
+use Rattle.kern_statements.specs.Several.{one_behind, several}
+use Rattle.kern_statements.proofs.LineLists.{line-behind, line-ends, lines_of}
 use Rattle.kern_statements.proofs.Going.{as_it_is, goes, goes_known, stops, stops_known}
-use Rattle.kern_statements.proofs.ManyLists.{an-item-ends, another-item, item-ends, item_shorter, last-item, no-more, none-yet, none-yet-of-several, one-more, several-then}
+use Rattle.kern_statements.proofs.ManyLists.{an-item-ends, another-behind, another-item, behind-ends, behind_shorter, item-ends, item_shorter, last-behind, last-item, no-more, none-yet, none-yet-of-several, one-more, several-then}
 use Rattle.kern_statements.proofs.Performed.{front}
 use Rattle.kern_blocks.specs.BlockSteps.{ConditionalTree, colon_block, conditional, conditional_of, elif_line, except_line, for_rest, with_rest, with_statement}
 use Rattle.kern_blocks.specs.declared.parts.Conditional.{Conditional}
-use Rattle.kern_blocks.proofs.BlockExits.{any_statement, deepest_statement, elif_branch, one_line_block}
+use Rattle.kern_blocks.proofs.BlockExits.{any_statement, deepest_statement, elif_branch, named_line, one_line_block}
 use Rattle.kern_blocks.proofs.Sequenced.{followed_bounds, followed_colon, followed_condition, pair_bounds, the_item, with_read}
 use Rattle.kern_blocks.proofs.+blocks.Goals as goal
 
@@ -320,22 +321,33 @@ branches::elifs_at-returns t c =
 pub block::statements_at-lines-init : goal.block::statements_at-lines-init
 block::statements_at-lines-init t c = none-yet-of-several (λ v. map line_of_statement v.items) c.new.result is_line (run (line_plan c.args.room)) (lexemes_left c.args.tokens) (ap (map line_of_statement) c.new.ensures.items)
 
-pub block::statements_at-returns-in_err-statement : goal.block::statements_at-returns-in_err-statement
-block::statements_at-returns-in_err-statement t c =
-    an-item-ends (λ v. v.items) line_of_statement is_line (run (line_plan c.args.room)) c.lines.statements (lexemes_left c.lines.rest) (several is_line (run (line_plan c.args.room)) (lexemes_left c.args.tokens)) c.lines.invariant c.in_err-statement.field-0.0 c.from_residual.result c.in_err-statement.ensures c.from_residual.ensures.1
+pub block::statements_at-returns-in_err-more : goal.block::statements_at-returns-in_err-more
+block::statements_at-returns-in_err-more t c =
+    behind-ends (λ v. v.items) line_of_statement is_line (run (line_plan c.args.room)) c.lines.statements (lexemes_left c.lines.rest) (several is_line (run (line_plan c.args.room)) (lexemes_left c.args.tokens)) c.lines.invariant c.in_err-more.field-0.0 c.from_residual.result (c.in_err-more.ensures c.lines.invariant.0 c.lines.invariant.1) c.from_residual.ensures.1
 
 pub block::statements_at-lines-smaller : goal.block::statements_at-lines-smaller
 block::statements_at-lines-smaller t c =
-    item_shorter (KeptAs line_of_statement) (line_phrase c.args.room) line_stop is_line (run (line_plan c.args.room)) (takes-line c.args.room) (lines-items c.args.room).begins (lexemes_left c.lines.rest) c.in_ok-statement.statement c.in_ok-statement.behind c.in_ok-statement.ensures
+    behind_shorter (λ v. v.items) line_of_statement (line_phrase c.args.room) line_stop is_line (run (line_plan c.args.room)) (takes-line c.args.room) (lines-items c.args.room).begins c.lines.invariant.0 (lexemes_left c.lines.rest) c.in_ok-more.more c.in_ok-more.behind (c.in_ok-more.ensures c.lines.invariant.0 c.lines.invariant.1)
 
 pub block::statements_at-lines-preserved : goal.block::statements_at-lines-preserved
 block::statements_at-lines-preserved t c =
-    another-item (λ v. v.items) line_of_statement (line_phrase c.args.room) line_stop is_line (run (line_plan c.args.room)) (takes-line c.args.room) (lines-items c.args.room).begins
-    c.lines.statements (lexemes_left c.lines.rest) (several is_line (run (line_plan c.args.room)) (lexemes_left c.args.tokens)) c.lines.invariant c.in_ok-statement.statement c.in_ok-statement.behind c.in_ok-statement.ensures c.pushed-statements.result c.pushed-statements.ensures (sym c.begins_line.ensures ∙ c.if-not-begins_line.false)
+    another-behind (λ v. v.items) line_of_statement (line_phrase c.args.room) line_stop is_line (run (line_plan c.args.room)) (takes-line c.args.room) (lines-items c.args.room).begins
+    c.lines.statements (lexemes_left c.lines.rest) (several is_line (run (line_plan c.args.room)) (lexemes_left c.args.tokens)) c.lines.invariant c.in_ok-more.more c.in_ok-more.behind (c.in_ok-more.ensures c.lines.invariant.0 c.lines.invariant.1) (sym c.begins_line.ensures ∙ c.if-not-begins_line.false)
 
 pub block::statements_at-returns-then-not-begins_line : goal.block::statements_at-returns-then-not-begins_line
 block::statements_at-returns-then-not-begins_line t c =
-    last-item (λ v. v.items) line_of_statement is_line (run (line_plan c.args.room)) c.lines.statements (lexemes_left c.lines.rest) (several is_line (run (line_plan c.args.room)) (lexemes_left c.args.tokens)) c.lines.invariant c.in_ok-statement.statement c.in_ok-statement.behind c.in_ok-statement.ensures c.pushed-statements.result c.pushed-statements.ensures (sym c.begins_line.ensures ∙ c.if-not-begins_line.true)
+    last-behind (λ v. v.items) line_of_statement is_line (run (line_plan c.args.room)) c.lines.statements (lexemes_left c.lines.rest) (several is_line (run (line_plan c.args.room)) (lexemes_left c.args.tokens)) c.lines.invariant c.in_ok-more.more c.in_ok-more.behind (c.in_ok-more.ensures c.lines.invariant.0 c.lines.invariant.1) (sym c.begins_line.ensures ∙ c.if-not-begins_line.true)
+
+pub block::statement_behind-returns-in-Name : goal.block::statement_behind-returns-in-Name
+block::statement_behind-returns-in-Name t c = λ xs k.
+    subst (λ taken. GivesTaken lines_of c.expression_behind.result (one_behind xs taken)) (sym (named_line c.args.room c.args.tokens c.in-len1-up.len_at_least c.in-Name.is)) (c.expression_behind.ensures xs k)
+
+pub block::other_behind-returns-in-Err : goal.block::other_behind-returns-in-Err
+block::other_behind-returns-in-Err t c = λ xs k. line-ends c.in-Err.wrong xs (run (line_plan c.args.room) (lexemes_left c.args.tokens)) c.in-Err.ensures
+
+pub block::other_behind-returns-in-Ok : goal.block::other_behind-returns-in-Ok
+block::other_behind-returns-in-Ok t c = λ xs k.
+    line-behind c.args.others c.in-Ok.statement c.pushed.result c.in-Ok.rest xs (run (line_plan c.args.room) (lexemes_left c.args.tokens)) k c.in-Ok.ensures c.pushed.ensures
 
 pub branches::handlers_at-handlers-init : goal.branches::handlers_at-handlers-init
 branches::handlers_at-handlers-init t c = none-yet-of-several (λ v. map except_line v.items) c.new.result is_except (run (except_plan c.args.room (run (line_plan c.args.room)))) (lexemes_left c.args.tokens) (ap (map except_line) c.new.ensures.items)

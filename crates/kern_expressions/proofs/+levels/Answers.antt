@@ -1,15 +1,18 @@
 use Rattle.std.proofs.Common.{◌≡◌, ◌-◌, suc, Bool, true, cond, List, [], ◌∷◌, ◌++◌, length, map, refl, sym, ap, subst, arith, ◌∙◌}
 use Rattle.std.specs.Prelude.{option_map, Some, None, Ok}
-use Rattle.kern_lexer.specs.Symbols.{Symbol}
-use Rattle.kern_syntax.specs.Tree.{Expression, compare, element, group, negation, no_more}
+use Rattle.kern_lexer.specs.Symbols.{Symbol, number}
+use Rattle.kern_lexer.specs.declared.token.TokenKind.TheVariants as T
+use Rattle.kern_syntax.specs.Tree.{Expression, compare, element, group, integer, negation, no_more}
 use Rattle.kern_syntax.specs.TreeOf.{arguments_of}
+use Rattle.kern_syntax.specs.declared.expression.Argument.TheVariants as A
+use Rattle.kern_syntax.specs.declared.expression.Expr.TheVariants as X
 use Rattle.kern_grammar.specs.Operators.{join}
-use Rattle.kern_grammar.specs.Reading.{bare_atom, comparison_behind, end_of_comparison, ended, first_form, inside_of, is_close_bracket, is_close_parenthesis, item, items, level_reader, not_at, prefix_form, row_behind, unary_at}
+use Rattle.kern_grammar.specs.Reading.{bare_atom, comparison_behind, end_of_comparison, ended, first_form, inside_of, is_close_bracket, is_close_parenthesis, item, items, level_reader, not_at, prefix_form, row_behind, unary_at, value}
 use Rattle.kern_expressions.specs.Given.{GivesExpression, symbols_left}
 use Rattle.kern_expressions.specs.Kept.{KeptAs, ReadAs, item_of}
 use Rattle.kern_expressions.specs.Passing.{behind_operand}
-use Rattle.kern_expressions.proofs.ArgumentLists.{arguments-kept, before, comma_end, item_end, next_shorter, no_more_left, none_so_far, one_more}
-use Rattle.kern_expressions.proofs.Exits.{comparison_read, dot_read, enclosed_read, found, given, goes, hands_on, prefixed_read, refused, row_read, stops, value_read}
+use Rattle.kern_expressions.proofs.ArgumentLists.{arguments-kept, before, comma_end, integer-argument, integer-kept, item_end, next_shorter, no_more_left, none_so_far, one_more}
+use Rattle.kern_expressions.proofs.Exits.{comparison_read, dot_read, enclosed_read, found, given, goes, hands_on, opened, prefixed_read, refused, row_read, stops, value_read}
 use Rattle.kern_expressions.proofs.Keeping.{keeps-more}
 use Rattle.kern_expressions.proofs.Passing.{Reaches, front-reaches, level-goes_on, levels-ended, levels-passed, reaches-next}
 use Rattle.kern_grammar.proofs.RowReads.{row_behind-none, then_ok}
@@ -23,6 +26,13 @@ begins b symbols t h = h ∙ ap (λ x. cond x (Some negation) None) t
 pub atom::argument_at-quoted_name-name-requires : goal.atom::argument_at-quoted_name-name-requires
 atom::argument_at-quoted_name-name-requires t c =
     first_quotable c.args.tokens.text.now c.args.tokens.list.now _ c.in-len1-up.len_at_least c.args.tokens.spelled c.in-Text.is
+
+pub atom::argument_at-returns-then-room-gt0 : goal.atom::argument_at-returns-then-room-gt0
+atom::argument_at-returns-then-room-gt0 t c =
+    let n = c.in-Integer.n in
+    let there : symbols_left c.args.tokens ≡ number n ∷ symbols_left c.tail-behind.result = opened c.args.tokens _ (T.Integer n) c.in-len1-up.len_at_least c.in-Integer.is ∙ ap (λ r. number n ∷ r) (sym c.tail-behind.ensures.symbols) in
+    given symbols_left (KeptAs item_of) (Some (A.Value (X.Integer n))) c.tail-behind.result (item (inside_of c.args.room) (symbols_left c.args.tokens)) (value (integer n)) (integer-kept n)
+    (ap (item (inside_of c.args.room)) there ∙ integer-argument c.args.room n (symbols_left c.tail-behind.result) (λ z. omega (arith, z, c.if-room-gt0.true)) (sym c.begins_with_argument_end.ensures ∙ c.if-begins_with_argument_end.true))
 
 pub atom::atom_at-returns : goal.atom::atom_at-returns
 atom::atom_at-returns t c =
@@ -120,34 +130,34 @@ expression::compared_at-returns t c = λ left k.
     goes ReadAs c.in_ok-right.right c.in_ok-right.rest c.ended_comparison.result (comparison_behind tighter left (symbols_left c.args.tokens)) (tighter (symbols_left c.tail.result)) (λ right. end_of_comparison (compare c.in-Some.op left right.0) right.1) read c.in_ok-right.ensures
     (λ right r. c.ended_comparison.ensures (compare c.in-Some.op left right) (c.compared.ensures left right k r))
 
-pub expression::level_at-returns-in_err-first : goal.expression::level_at-returns-in_err-first
-expression::level_at-returns-in_err-first t c =
+pub expression::level_here_at-returns-in_err-first : goal.expression::level_here_at-returns-in_err-first
+expression::level_here_at-returns-in_err-first t c =
     let symbols = symbols_left c.args.tokens in
     let inside = inside_of c.args.room in
     let reaches : Reaches c.args.level c.front_level-reached.result symbols = subst (λ n. Reaches c.args.level n symbols) (sym c.front_level-reached.ensures) (front-reaches c.args.level symbols) in
     hands_on symbols_left ReadAs c.from_residual.result c.in_err-first.field-0.0 (level_reader inside c.args.level symbols) c.from_residual.ensures.1
     (levels-ended (symbols_left c.in_err-first.field-0.0.left) inside c.args.level c.front_level-reached.result symbols reaches (refused symbols_left ReadAs c.in_err-first.field-0.0 (level_reader inside c.front_level-reached.result symbols) c.in_err-first.ensures))
 
-pub expression::level_at-levels-init : goal.expression::level_at-levels-init
-expression::level_at-levels-init t c =
+pub expression::level_here_at-levels-init : goal.expression::level_here_at-levels-init
+expression::level_here_at-levels-init t c =
     let symbols = symbols_left c.args.tokens in
     let e = found symbols_left ReadAs c.in_ok-first.first c.in_ok-first.after (level_reader (inside_of c.args.room) c.front_level-reached.result symbols) c.in_ok-first.ensures in
     (e.0, e.1, subst (λ n. Reaches c.args.level n symbols) (sym c.front_level-reached.ensures) (front-reaches c.args.level symbols), e.2)
 
-pub expression::level_at-returns-then-next-reached : goal.expression::level_at-returns-then-next-reached
-expression::level_at-returns-then-next-reached t c =
+pub expression::level_here_at-returns-then-next-reached : goal.expression::level_here_at-returns-then-next-reached
+expression::level_here_at-returns-then-next-reached t c =
     let e = c.levels.invariant in
     given symbols_left ReadAs c.levels.e c.levels.rest _ e.0 e.1
     (levels-passed (inside_of c.args.room) c.args.level c.levels.reached (symbols_left c.args.tokens) (symbols_left c.levels.rest) e.0 e.2 (λ k a b q. omega (arith, a, q, c.level_of_operator-next.ensures, c.if-next-reached.true)) e.3)
 
-pub expression::level_at-returns-then-next-level : goal.expression::level_at-returns-then-next-level
-expression::level_at-returns-then-next-level t c =
+pub expression::level_here_at-returns-then-next-level : goal.expression::level_here_at-returns-then-next-level
+expression::level_here_at-returns-then-next-level t c =
     let e = c.levels.invariant in
     given symbols_left ReadAs c.levels.e c.levels.rest _ e.0 e.1
     (levels-passed (inside_of c.args.room) c.args.level c.levels.reached (symbols_left c.args.tokens) (symbols_left c.levels.rest) e.0 e.2 (λ k a b q. omega (arith, b, q, c.level_of_operator-next.ensures, c.if-next-level.true)) e.3)
 
-pub expression::level_at-returns-in_err-longer : goal.expression::level_at-returns-in_err-longer
-expression::level_at-returns-in_err-longer t c =
+pub expression::level_here_at-returns-in_err-longer : goal.expression::level_here_at-returns-in_err-longer
+expression::level_here_at-returns-in_err-longer t c =
     let symbols = symbols_left c.args.tokens in
     let inside = inside_of c.args.room in
     let next = c.level_of_operator-next.result in
@@ -158,8 +168,8 @@ expression::level_at-returns-in_err-longer t c =
     hands_on symbols_left ReadAs c.from_residual-in_err-longer.result c.in_err-longer.field-0.0 (level_reader inside c.args.level symbols) c.from_residual-in_err-longer.ensures.1
     (levels-ended (symbols_left c.in_err-longer.field-0.0.left) inside c.args.level next symbols reaches (goes_on ∙ stopped))
 
-pub expression::level_at-levels-preserved : goal.expression::level_at-levels-preserved
-expression::level_at-levels-preserved t c =
+pub expression::level_here_at-levels-preserved : goal.expression::level_here_at-levels-preserved
+expression::level_here_at-levels-preserved t c =
     let symbols = symbols_left c.args.tokens in
     let inside = inside_of c.args.room in
     let next = c.level_of_operator-next.result in

@@ -42,7 +42,10 @@ abbrev pub decreases-atom::atom_at : goal.decreases-atom::atom_at
 decreases-atom::atom_at l = 64 * l.room + 8
 
 abbrev pub decreases-expression::level_at : goal.decreases-expression::level_at
-decreases-expression::level_at l = 64 * l.room + 4 * l.level + 12
+decreases-expression::level_at l = 64 * l.room + 4 * l.level + 13
+
+abbrev pub decreases-expression::level_here_at : goal.decreases-expression::level_here_at
+decreases-expression::level_here_at l = 64 * l.room + 4 * l.level + 12
 
 abbrev pub decreases-expression::front_at : goal.decreases-expression::front_at
 decreases-expression::front_at l = 64 * l.room + 4 * l.level + 11
@@ -70,13 +73,13 @@ invariant-atom::items_at-items l =
 abbrev pub decreases-atom::items_at-items : goal.decreases-atom::items_at-items
 decreases-atom::items_at-items l = length (symbols_left l.rest)
 
-abbrev pub invariant-expression::level_at-levels : goal.invariant-expression::level_at-levels
-invariant-expression::level_at-levels l =
+abbrev pub invariant-expression::level_here_at-levels : goal.invariant-expression::level_here_at-levels
+invariant-expression::level_here_at-levels l =
     (tree : Expression) × ReadAs l.e tree × Reaches l.level l.reached (symbols_left l.tokens)
     × (level_reader (inside_of l.room) l.reached (symbols_left l.tokens) ≡ Ok (tree, symbols_left l.rest))
 
-abbrev pub decreases-expression::level_at-levels : goal.decreases-expression::level_at-levels
-decreases-expression::level_at-levels l = l.level - l.reached
+abbrev pub decreases-expression::level_here_at-levels : goal.decreases-expression::level_here_at-levels
+decreases-expression::level_here_at-levels l = l.level - l.reached
 
 abbrev pub invariant-expression::row_at-turns : goal.invariant-expression::row_at-turns
 invariant-expression::row_at-turns l =
