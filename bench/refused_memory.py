@@ -8,8 +8,9 @@ command with its input. It is run once with nothing refused, which counts its al
 with the n-th one refused, and with all from the n-th on. What may come: status 5, the line `memory` on standard error and
 nothing on standard output; or, where the refused one wasn't needed (a thread that can't be made: the workers run one after
 another), what came with nothing refused. Of several workers the clocks, stamps and order of lines go by their turns, so they
-aren't compared. Every other outcome is an error and is printed. That a process has ended says that all its threads have. Run
-by hand: docs/RELIABILITY.md has its figures.
+aren't compared. `crew_ends` says how each worker of a session ended: where memory ran out for some, each other one has to be
+stopped by one of these, by the same, or to have finished before. Every other outcome is an error and is printed. That a process
+has ended says that all its threads have. Run by hand: docs/RELIABILITY.md has its figures.
 """
 
 import collections
@@ -24,6 +25,8 @@ from timing import PROGRAM, ROOT
 
 LABORATORY = os.path.join(ROOT, "crates", "artiq_lab", "out", "artiq_lab")
 TRACER = os.path.join(ROOT, "crates", "artiq_trace", "out", "artiq_trace")
+CREW = os.path.join(ROOT, "crates", "crew_ends", "out", "crew_ends")
+SESSIONS = os.path.join(ROOT, "crates", "crew_ends", "data")
 SOURCE = os.path.join(ROOT, "bench", "refusing_memory.c")
 # A run that takes longer than this many seconds counts as one that doesn't end.
 LONGEST = 120
@@ -79,8 +82,8 @@ FOUR_PIPELINES = {
     "arrivals": [{"at": 0, "submit": {"experiment": 0, "pipeline": pipeline}} for pipeline in range(4)],
 }
 
-# A command with its input, and whether several workers take turns in it.
-Case = collections.namedtuple("Case", "name argv text takes_turns", defaults=(False,))
+# A command with its input, whether several workers take turns in it, and whether it says how each of them ended.
+Case = collections.namedtuple("Case", "name argv text takes_turns says_ends", defaults=(False, False))
 Outcome = collections.namedtuple("Outcome", "status out err")
 REFUSED = Outcome(5, b"", b"memory\n")
 
@@ -122,6 +125,8 @@ def cases():
     for workers in (2, 4, 8):
         text = json.dumps(FOUR_PIPELINES | {"workers": workers}).encode()
         yield Case(f"laboratory, four pipelines, workers {workers}", [LABORATORY], text, True)
+    for file in ("two_runs.json", "four_pipelines.json", "eight_workers.json"):
+        yield Case(f"ends of a crew, {file}", [CREW, os.path.join(SESSIONS, file)], b"", True, True)
 
 
 def run(case, library, at, on):
@@ -157,6 +162,21 @@ def settled(case, outcome):
     return outcome.status, sorted([it[0], *it[2:]] if it[0] in timed else it for it in lines), outcome.err
 
 
+def kind_of(case, outcome, whole):
+    """What an outcome is: `memory`, `as before`, or an error. Of the ends of a crew also `stopped`: memory ran out for some of its
+    workers, and each other one was stopped by the same of these, or had finished before."""
+    if settled(case, outcome) == settled(case, whole):
+        return "as before"
+    if not case.says_ends:
+        return "memory" if outcome == REFUSED else "error"
+    ends = outcome.out.decode().partition(": ")[2].split()
+    if outcome.status or not ends or ends in (["no", "crew"], ["no", "session"]):
+        return "memory" if "finished" not in ends else "error"
+    wanting = {f"stopped_by_{number}" for number, end in enumerate(ends) if end == "memory"}
+    by = {end for end in ends if end not in ("memory", "finished")}
+    return "stopped" if wanting and by <= wanting and len(by) < 2 else "error"
+
+
 def tried(case, library, pool):
     """Tries a case: its count of allocations, how often each outcome came, and the runs that are errors."""
     whole, count = run(case, library, 0, False)
@@ -166,12 +186,9 @@ def tried(case, library, pool):
     outcomes = pool.map(lambda it: run(case, library, *it)[0], numbers)
     found, wrong = collections.Counter(), []
     for (at, on), outcome in zip(numbers, outcomes):
-        if outcome == REFUSED:
-            found["memory"] += 1
-        elif settled(case, outcome) == settled(case, whole):
-            found["as before"] += 1
-        else:
-            found["error"] += 1
+        kind = kind_of(case, outcome, whole)
+        found[kind] += 1
+        if kind == "error":
             wrong.append((at, on, outcome))
     return count, found, wrong
 
@@ -183,12 +200,12 @@ def main():
     with tempfile.TemporaryDirectory() as folder, concurrent.futures.ThreadPoolExecutor(os.cpu_count()) as pool:
         library = os.path.join(folder, "refusing_memory.so")
         subprocess.run(["cc", "-O2", "-shared", "-fPIC", "-o", library, SOURCE], check=True)
-        print(f"{'case':40} {'allocations':>11} {'runs':>7} {'memory':>7} {'as before':>9} {'errors':>6}")
+        print(f"{'case':40} {'allocations':>11} {'runs':>7} {'memory':>7} {'stopped':>7} {'as before':>9} {'errors':>6}")
         for case in cases():
             if word not in case.name:
                 continue
             count, found, wrong = tried(case, library, pool)
-            shown = f"{found['memory']:7} {found['as before']:9} {found['error']:6}"
+            shown = f"{found['memory']:7} {found['stopped']:7} {found['as before']:9} {found['error']:6}"
             print(f"{case.name:40} {count:11} {2 * count:7} {shown}", flush=True)
             for at, on, outcome in wrong[:5]:
                 print(f"    {'all from' if on else 'only'} {at}: {outcome.status} {outcome.err[:60]} {outcome.out[:60]}")

@@ -9,6 +9,8 @@ mod crews;
 #[cfg(test)]
 mod kits;
 #[cfg(test)]
+mod overtaking;
+#[cfg(test)]
 mod sessions;
 #[cfg(test)]
 mod standing;

@@ -1,13 +1,16 @@
 -- The workers of a crew, as they are seated and as they end.
-use Rattle.std.specs.Prelude.{◌≡◌, ℕ, zero, suc, ◌<◌, List, [], ◌∷◌, map, ◌⊎◌, Some, IsTrue}
+use Rattle.std.specs.Prelude.{◌≡◌, ℕ, zero, suc, ◌<◌, List, [], ◌∷◌, map, ◌⊎◌, Option, Some, IsSome, IsTrue}
+use Rattle.std.specs.List.{AllZip}
 use Rattle.desk_rule.specs.Histories.{Each}
 use Rattle.desk.specs.Seated.{Opened, new_chair}
 use Rattle.rtio_core.specs.declared.data.Config.{Config}
 use Rattle.exp_model.specs.declared.session.Session.{Session}
-use Rattle.sched_state.specs.Lawful.{state_after}
+use Rattle.sched_state.specs.Lawful.{halted_by, state_after}
 use Rattle.sched_state.specs.Picks.{is_over}
 use Rattle.worker_desks.specs.declared.desks.Desks.{Desks}
-use Rattle.lab_workers.specs.declared.worker.WorkEnd.TheVariants.{Finished}
+use Rattle.lab_desks.specs.Seats.{AreSetFor}
+use Rattle.lab_workers.specs.declared.worker.WorkEnd.{WorkEnd}
+use Rattle.lab_workers.specs.declared.worker.WorkEnd.TheVariants.{Finished, Memory, Stopped}
 use Rattle.lab_workers.specs.Workers.{IsAtRest, IsFree, IsWorkerAt, WorkerValue, halts, sched_entries}
 use Rattle.lab_crew.specs.declared.member.Member.{Member}
 
@@ -41,11 +44,26 @@ pub record MayWork (desks : Desks) (member : Member) : Type 0 where
   pub rest : IsAtRest desks.session member.worker
   pub going : halts member.worker.sched ≡ []
 
--- a member has worked to its end
+-- A member has worked to its end: it has done all that there was to do; or it was stopped by the one
+-- that halted the scheduler; or memory ran out for it, and the scheduler is halted
 pub record HasWorked (desks : Desks) (old new : Member) : Type 0 where
   pub number : new.worker.number ≡ old.worker.number
   pub at : IsWorkerAt desks new.worker
+  pub ended : IsSome new.end
   pub done : new.end ≡ Some Finished → IsDone desks.session new.worker
+  pub stopped : (by : ℕ) → new.end ≡ Some (Stopped by) → halted_by (sched_entries new.worker.sched.seen) ≡ Some by
+  pub memory : new.end ≡ Some Memory → IsSome (halted_by (sched_entries new.worker.sched.seen))
+
+-- so many new workers, at the desks of the session, have worked to these ends
+pub record HaveEnded (session : Session) (workers : ℕ) (ends : List (Option WorkEnd)) : Type 0 where
+  pub desks : Desks
+  pub session_is : desks.session ≡ session
+  pub set : AreSetFor workers desks
+  pub before : List Member
+  pub after : List Member
+  pub new : map (λ (member : Member). member.worker) before ≡ new_workers desks workers
+  pub worked : AllZip (HasWorked desks) before after
+  pub ends_are : ends ≡ map (λ (member : Member). member.end) after
 
 -- one of the workers has the number
 abbrev pub HasWorker : List WorkerValue → ℕ → Type 0

@@ -5,9 +5,13 @@
 mod closing;
 mod crew;
 mod dealing;
+mod ending;
 mod gathering;
 mod member;
 mod preparing;
 mod threads;
 
 pub use crew::run_crew;
+pub use ending::ends_of_crew;
+/// How a worker ends.
+pub use lab_workers::WorkEnd;

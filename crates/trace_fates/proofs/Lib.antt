@@ -6,3 +6,4 @@ mod Marking
 mod Backwards
 mod Joined
 mod Counting
+mod Reasons

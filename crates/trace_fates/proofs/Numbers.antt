@@ -68,13 +68,13 @@ head_in n act a here is = absurd here
 one_more : (before : List Entry) (entry : Entry) → outputs_asked (before ++ entry ∷ []) ≡ outputs_asked before + count_by (λ (x : Entry). is_output_act x.act) (entry ∷ [])
 one_more before entry = sum_by_push _ before entry ∙ omega arith
 
-no_less : (before : List Entry) (entry : Entry) → outputs_asked before ≤ outputs_asked (before ++ entry ∷ [])
+pub no_less : (before : List Entry) (entry : Entry) → outputs_asked before ≤ outputs_asked (before ++ entry ∷ [])
 no_less before entry = omega (arith, one_more before entry)
 
 counted_one : (before : List Entry) (entry : Entry) → is_output_act entry.act ≡ true → outputs_asked (before ++ entry ∷ []) ≡ outputs_asked before + 1
 counted_one before entry is = one_more before entry ∙ ap (λ n. outputs_asked before + n) (rw is refl)
 
-low_submitted : (before rest : List Entry) (p : ℕ × Event) → IsAmong p (submitted_behind before rest) → outputs_asked before ≤ p.0
+pub low_submitted : (before rest : List Entry) (p : ℕ × Event) → IsAmong p (submitted_behind before rest) → outputs_asked before ≤ p.0
 low_submitted before [] p here = absurd here
 low_submitted before (entry ∷ rest) p here =
     by (split_among p (done_output (outputs_asked before) entry.act) (submitted_behind (before ++ entry ∷ []) rest) here) (λ there. low_submitted (before ++ entry ∷ []) rest p there)

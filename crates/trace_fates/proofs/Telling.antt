@@ -52,7 +52,7 @@ decides_same p q =
     (λ same. (ap (λ (x : ℕ × Event). x.0) same, ap (λ (x : ℕ × Event). x.1) same))
     (Decides-and _ _ (Decides-eqb p.0 q.0) (decides_event p.1 q.1))
 
-decides_listed : (p : ℕ × Event) (xs : List (ℕ × Event)) → Decides (is_listed p xs) (IsAmong p xs)
+pub decides_listed : (p : ℕ × Event) (xs : List (ℕ × Event)) → Decides (is_listed p xs) (IsAmong p xs)
 decides_listed p [] = (λ e. absurd (true≢false (sym e)), λ h. absurd h)
 decides_listed p (q ∷ rest) = Decides-or _ _ (decides_same p q) (decides_listed p rest)
 
@@ -67,26 +67,26 @@ false_of : {P : Type 0} (b : Bool) → Decides b P → ¬ P → b ≡ false
 false_of true d n = absurd (n (d.0 refl))
 false_of false d n = refl
 
-not_of : {P : Type 0} (b : Bool) → Decides b P → b ≡ false → ¬ P
+pub not_of : {P : Type 0} (b : Bool) → Decides b P → b ≡ false → ¬ P
 not_of b d e p = true≢false (sym (d.1 p) ∙ e)
 
 -- ---- overriding
 
 -- what an override is, part by part
-abbrev Overrides : LogLists → (p other : ℕ × Event) → Type 0
+abbrev pub Overrides : LogLists → (p other : ℕ × Event) → Type 0
 Overrides log p other =
     ((((replaces p.1.channel ≡ true) × (¬ IsAmong other log.sequence)) × (p.0 < other.0)) × (other.1.channel ≡ p.1.channel)) × (other.1.stamp ≡ p.1.stamp)
 
 decides_true : (b : Bool) → Decides b (b ≡ true)
 decides_true b = (λ e. e, λ e. e)
 
-decides_overrides : (log : LogLists) (p other : ℕ × Event) → Decides (overrides log p other) (Overrides log p other)
+pub decides_overrides : (log : LogLists) (p other : ℕ × Event) → Decides (overrides log p other) (Overrides log p other)
 decides_overrides log p other =
     Decides-and _ _
     (Decides-and _ _ (Decides-and _ _ (Decides-and _ _ (decides_true (replaces p.1.channel)) (Decides-not _ (decides_listed other log.sequence))) (Decides-ltb p.0 other.0)) (Decides-eqb other.1.channel p.1.channel))
     (Decides-int_eq other.1.stamp p.1.stamp)
 
-none_overrides : (log : LogLists) (events : List (ℕ × Event)) (p : ℕ × Event) → overridden_by log events p ≡ None → (q : ℕ × Event) → IsAmong q events → overrides log p q ≡ true → ⊥
+pub none_overrides : (log : LogLists) (events : List (ℕ × Event)) (p : ℕ × Event) → overridden_by log events p ≡ None → (q : ℕ × Event) → IsAmong q events → overrides log p q ≡ true → ⊥
 none_overrides log [] p none q here over = absurd here
 none_overrides log (other ∷ rest) p none q here over =
     by (overrides log p other) refl none here (λ none' there. none_overrides log rest p none' q there over)
@@ -106,6 +106,10 @@ never_overridden log (other ∷ rest) p none =
     by : (b : Bool) → overrides log p other ≡ b → overridden_by log rest p ≡ None → (if b then Some other.0 else overridden_by log rest p) ≡ None
     by true e others = absurd (none other (inl refl) e)
     by false e others = others
+
+abbrev pub overriding : (core : CoreState) (p q : ℕ × Event) → IsAmong q (submitted core.history) → Overrides (log_at core.config core.history core.counter) p q → IsOverridden (submitted core.history) (log_at core.config core.history core.counter) p
+overriding core p q among o =
+    record { replacing = o.0.0.0.0; other = q; asked = among; in_sequence = o.0.0.0.1; later = o.0.0.1; channel = o.0.1; stamp = o.1 }
 
 -- ---- the fate
 
@@ -162,12 +166,8 @@ tells_submitted core p here = (there, back)
         (false_of _ (decides_listed p log'.cleared) (λ h. out.unnamed (inr (inr (inr h)))))
         (false_of _ (decides_listed p log'.collided) (λ h. out.unnamed (inr (inl h))))
         (false_of _ (decides_listed p log'.busy) (λ h. out.unnamed (inr (inr (inl h)))))
-        (never_overridden log' (submitted core.history) p (λ q among over. out.kept (overriding q among ((decides_overrides log' p q).0 over))))
+        (never_overridden log' (submitted core.history) p (λ q among over. out.kept (overriding core p q among ((decides_overrides log' p q).0 over))))
         ((decides_reached (cycle_of p.1) core.counter).1 out.reached)
-      where
-        overriding : (q : ℕ × Event) → IsAmong q (submitted core.history) → Overrides (log_at core.config core.history core.counter) p q → IsOverridden (submitted core.history) (log_at core.config core.history core.counter) p
-        overriding q among o =
-            record { replacing = o.0.0.0.0; other = q; asked = among; in_sequence = o.0.0.0.1; later = o.0.0.1; channel = o.0.1; stamp = o.1 }
 
 pub tells_asked : (core : CoreState) → IsLawful core.config core.history → TellsAsked core
 tells_asked core lawful a here = by (answered_right core.config [] core.history lawful a here)

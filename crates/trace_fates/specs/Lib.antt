@@ -3,3 +3,4 @@ pub mod Fates
 pub mod Passes
 pub mod Slack
 pub mod Laws
+pub mod Reasons

@@ -7,6 +7,7 @@ ghost use Rattle.rtio_core.specs.Reply.{outputs_at};
 ghost use Rattle.trace_fates.specs.Asked.{outputs_of};
 ghost use Rattle.trace_fates.specs.Fates.{came_out, lost};
 ghost use Rattle.trace_fates.specs.Laws.{IsToldOnce, TellsAsked, TellsLate, TellsSubmitted};
+ghost use Rattle.trace_fates.specs.Reasons.{TellsWhy};
 
 use rtio_headline::what_is_put_out_was_submitted;
 
@@ -26,6 +27,12 @@ pub fn late_is_a_slack_below_a_cycle()
 /// In every lawful history each output that was asked for either is put out, or stands once among the lost ones.
 pub fn each_output_is_put_out_or_lost_once()
     ensures { (core : CoreState) → IsLawful core.config core.history → IsToldOnce core }
+{}
+
+/// In every lawful history the reason for each output's fate holds, in the words of the headline, and none of those that are
+/// told before it does. One that was overridden tells the first later one that overrode it.
+pub fn each_fate_is_the_first_reason_that_holds()
+    ensures { (core : CoreState) → IsLawful core.config core.history → TellsWhy core }
 {}
 
 /// In every lawful history as many outputs came out as the core has put out, and the others are lost.

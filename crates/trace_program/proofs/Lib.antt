@@ -2,3 +2,4 @@ mod Asking
 mod Left
 mod Placing
 mod Telling
+mod Whole

@@ -8,6 +8,6 @@ mod places;
 mod top;
 mod words;
 
-pub use laws::no_trace_leaves_out_an_output;
+pub use laws::{a_whole_trace_misses_no_output, no_trace_leaves_out_an_output};
 pub use top::trace_top;
 pub use top_calls::{own_words, without_memory};
