@@ -3,6 +3,7 @@
 from __future__ import annotations
 
 import dataclasses
+import functools
 import inspect
 import operator
 import os
@@ -138,17 +139,56 @@ def read_kernel(kernel: KernelLike, call: str | None = None, args: Sequence[int 
     OSError
         Where the file can't be read.
     """
+    return with_call(text_of(kernel), called_in(kernel, call, args), args)
+
+
+def text_of(kernel: KernelLike) -> KernelText:
+    """Takes a kernel's text as it is, whatever is called in it; raises as `read_kernel`."""
     if isinstance(kernel, KernelText):
-        text = kernel
-    elif callable(kernel):
-        text = _text_of_function(kernel)
-        if call is None and (kernel.__name__ != "main" or len(args) > 0):
-            call = kernel.__name__
-    else:
-        text = _text_of(kernel)
-    if call is None and len(args) > 0:
-        raise OptionError("args", args, "the arguments of the function that call= names, and there is no call=")
-    return text if call is None else _with_call(text, call, args)
+        return kernel
+    return _text_of_function(kernel) if callable(kernel) else _text_of(kernel)
+
+
+def called_in(kernel: KernelLike, call: str | None, args: Sequence[int | bool]) -> str | None:
+    """The function of a kernel that is run in place of `main`; None where `main` is."""
+    if call is None and callable(kernel) and (kernel.__name__ != "main" or len(args) > 0):
+        return kernel.__name__
+    return call
+
+
+def with_call(text: KernelText, call: str | None, args: Sequence[int | bool]) -> KernelText:
+    """A text with a `main` behind it that calls the function `call`; as it is where that is None. Raises as `read_kernel`."""
+    if call is None:
+        if len(args) > 0:
+            raise OptionError("args", args, "the arguments of the function that call= names, and there is no call=")
+        return text
+    if not isinstance(call, str) or not re.fullmatch(r"[A-Za-z_]\w{0,63}", call, re.ASCII):
+        raise OptionError("call", call, "the name of a function of the text")
+    data, other = _without_main(text.data)
+    given = ", ".join(map(_argument, args))
+    called = other if call == "main" and other is not None else call
+    behind = f"def main():\n    {called}({given})\n"
+    shown = ("def main():", f"    {call}({given})")
+    return KernelText(data + behind.encode(), (*text.origins, Origin(CALL, 1, 0, shown)))
+
+
+# A sweep calls one function of a text with many arguments.
+@functools.lru_cache(maxsize=8)
+def _without_main(data: bytes) -> tuple[bytes, str | None]:
+    """A text whose last line is ended and whose own `main` has another name, and that name where it had a `main`."""
+    data = data if data.endswith(b"\n") else data + b"\n"
+    decoded = data.decode(errors="surrogateescape")
+    other = _other_name(decoded)
+    if other is None:
+        return data, None
+    return _with_main_renamed(decoded, other).encode(errors="surrogateescape"), other
+
+
+@functools.lru_cache(maxsize=8)
+def parameters(data: bytes, function: str) -> tuple[str, ...] | None:
+    """The names of the parameters of a function of a kernel's text; None where the text has no such function."""
+    head = re.search(rf"^def\s+{re.escape(function)}\s*\(([^)]*)\)", data.decode(errors="replace"), re.M)
+    return tuple(re.findall(r"(\w+)\s*:", head[1])) if head else None
 
 
 def read_source(kernel: KernelLike) -> KernelText:
@@ -247,19 +287,6 @@ def _source_of(function: Callable[..., object]) -> tuple[str, Origin]:
 
 def _file_of(function: Callable[..., object]) -> str:
     return inspect.getsourcefile(function) or _TEXT
-
-
-def _with_call(text: KernelText, call: str, args: Sequence[int | bool]) -> KernelText:
-    if not isinstance(call, str) or not re.fullmatch(r"[A-Za-z_]\w{0,63}", call, re.ASCII):
-        raise OptionError("call", call, "the name of a function of the text")
-    data = text.data if text.data.endswith(b"\n") else text.data + b"\n"
-    other = _other_name(data.decode(errors="surrogateescape"))
-    if other is not None:
-        data = _with_main_renamed(data.decode(errors="surrogateescape"), other).encode(errors="surrogateescape")
-    called = other if call == "main" and other is not None else call
-    behind = ("def main():", f"    {called}({', '.join(map(_argument, args))})")
-    shown = (behind[0], f"    {call}({', '.join(map(_argument, args))})")
-    return KernelText(data + "\n".join([*behind, ""]).encode(), (*text.origins, Origin(CALL, 1, 0, shown)))
 
 
 def _other_name(text: str) -> str | None:

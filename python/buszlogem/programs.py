@@ -22,7 +22,7 @@ import warnings
 from collections.abc import Iterable, Sequence
 
 from .errors import ProgramError, ProgramMissing
-from .shells import own_shell
+from .shells import Ended, Words, own_shell
 
 FOLDER_VARIABLE = "BUSZLOGEM_BIN"
 PROGRAMS = ("artiq_sim", "artiq_lab", "artiq_trace")
@@ -148,19 +148,23 @@ def start(name: str, words: Sequence[str], given: str | bytes, timeout: float | 
     """
     data = given.encode() if isinstance(given, str) else given
     try:
-        return Answer(*_ended([find(name), *words], data, timeout))
+        return answer_of(*_ended((find(name), *words), data, timeout))
     except subprocess.TimeoutExpired as late:
         raise ProgramError(-9, "", f"{name} was ended after {timeout} seconds") from late
     except OSError as why:
         raise ProgramError(126, "", f"{name} can't be started: {why}") from why
 
 
-def _ended(command: Sequence[str | pathlib.Path], data: bytes, timeout: float | None) -> tuple[int, str, str]:
+def _ended(command: Words, data: bytes, timeout: float | None) -> Ended:
     """The status of a program, and what it wrote to standard output and to standard error."""
     shell = own_shell() if timeout is None else None
     answered = shell.start(command, data) if shell is not None else None
     if answered is None:
         ended = subprocess.run(command, input=data, capture_output=True, timeout=timeout, check=False)
         answered = ended.returncode, ended.stdout, ended.stderr
-    status, out, err = answered
-    return status, out.decode(), err.decode()
+    return answered
+
+
+def answer_of(status: int, out: bytes, err: bytes) -> Answer:
+    """The answer of a program that gave this."""
+    return Answer(status, out.decode(), err.decode())

@@ -138,8 +138,10 @@ class Commands(SimCase):
         self.assertEqual(self.shell.run("buszlogem run colon.py"), (1, "", SHOWN))
 
     def test_a_reader_that_closes(self):
-        status, out, err = self.shell.run("(sleep 0.3; buszlogem run examples/ramsey_scan.py) | true; echo ${PIPESTATUS[0]}")
-        self.assertEqual((status, out, err), (0, "4\n", ""))
+        # The command begins once its reader has closed the pipe.
+        closed = "{ exec <&-; echo > closed; }"
+        told = f"mkfifo closed; {{ read < closed; buszlogem run examples/ramsey_scan.py; }} | {closed}; echo ${{PIPESTATUS[0]}}"
+        self.assertEqual(self.shell.run(told), (0, "4\n", ""))
         status, out, err = self.shell.run("buszlogem run examples/ramsey_scan.py > /dev/full; echo $?")
         self.assertEqual((status, out), (0, "4\n"))
 

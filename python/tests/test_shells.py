@@ -1,33 +1,23 @@
 """Programs that a shell starts answer as those that Python starts; where a shell isn't there or is gone, Python starts them."""
 
 import concurrent.futures
-import contextlib
 import multiprocessing
 import os
 import pathlib
 import signal
-import subprocess
-import sys
 import tempfile
 import threading
-import time
 import unittest
 from unittest import mock
 
-from support import ROOT, SimCase, kernels_of_examples
+from support import SimCase, kernels_of_examples
 
-from buszlogem import ProgramError, ProgramMissing, programs, run, shells, sweep
+from buszlogem import ProgramError, ProgramMissing, programs, run, shells
 from buszlogem.shells import Shell, ShellThreads, own_shell
 
 PULSE = b"def main():\n    at_mu(1000)\n    ttl0.pulse_mu(200)\n"
 # Under the schedule below each cycle is a step: it takes a while.
 WAITING = "def main():\n    core.wait_until_mu(200_000_000)\n"
-SWEEP = """\
-import sys
-from buszlogem import sweep
-print("begun", flush=True)
-sweep(sys.argv[1], [{}] * 400, progress=False, schedule="mix:1")
-"""
 
 
 def both_ways(words, text, name="artiq_sim"):
@@ -130,19 +120,6 @@ class Threads(SimCase):
             self.assertEqual(sum(isinstance(shell, Shell) for shell in found), 3)
         self.assertIsNone(own_shell())
 
-    def test_a_sweep_has_them(self):
-        started, original = [], Shell.start
-
-        def noted(shell, words, data):
-            started.append(words[0])
-            return original(shell, words, data)
-
-        points = [{"cost": cost} for cost in range(5)]
-        with mock.patch.object(Shell, "start", noted):
-            table = sweep(PULSE.decode(), points, progress=False)
-        self.assertTrue(table.ok)
-        self.assertEqual(started.count(programs.find("artiq_sim")), 5)
-
     def test_a_process_that_is_forked_has_none(self):
         def in_a_fork():
             with concurrent.futures.ProcessPoolExecutor(1, multiprocessing.get_context("fork")) as processes:
@@ -159,7 +136,7 @@ class Threads(SimCase):
             shell = pool.submit(own_shell).result()
             self.assertIsNone(shell._process.poll())
         self.assertEqual(shell._process.poll(), 0)
-        self.assertIsNone(shell.start([programs.find("artiq_sim"), "sim"], PULSE))
+        self.assertIsNone(shell.start((programs.find("artiq_sim"), "sim"), PULSE))
 
     def test_a_shell_that_is_gone(self):
         with ShellThreads(1) as pool:
@@ -191,37 +168,69 @@ class Threads(SimCase):
             ShellThreads(0)
 
 
-class Interrupted(SimCase):
-    def test_an_interrupt_from_the_terminal_ends_programs_and_sweep(self):
-        command = [sys.executable, "-c", SWEEP, WAITING]
-        environment = {**os.environ, "PYTHONPATH": str(ROOT / "python")}
-        with subprocess.Popen(
-            command, env=environment, stdout=subprocess.PIPE, stderr=subprocess.PIPE, text=True, start_new_session=True
-        ) as running:
-            running.stdout.readline()
-            while not of_group(running.pid, "artiq_sim"):
-                self.assertIsNone(running.poll())
-                time.sleep(0.01)
-            time.sleep(1)
-            begun = time.monotonic()
-            os.killpg(running.pid, signal.SIGINT)
-            said = running.communicate()[1]
-        self.assertIn("KeyboardInterrupt", said)
-        # All points would take some minutes; after the interrupt each thread may begin one more.
-        self.assertLess(time.monotonic() - begun, 60)
-        self.assertEqual(of_group(running.pid, ""), [])
+class Ahead(SimCase):
+    """A shell that is told of several programs."""
 
+    def setUp(self):
+        self.folder = pathlib.Path(self.enterContext(tempfile.TemporaryDirectory()))
+        self.shell = Shell(ahead=2)
+        self.addCleanup(self.shell.close)
+        self.sim = programs.find("artiq_sim")
 
-def of_group(group, name):
-    """The processes of a group whose program is so named."""
-    found = []
-    for stat in pathlib.Path("/proc").glob("[0-9]*/stat"):
-        with contextlib.suppress(OSError):
-            _, _, rest = stat.read_text(errors="replace").partition("(")
-            command, _, numbers = rest.rpartition(") ")
-            if int(numbers.split()[2]) == group and name in command:
-                found.append(int(stat.parent.name))
-    return found
+    def heard(self, answers):
+        """Hears so many answers."""
+        found = []
+        while len(found) < answers:
+            found += self.shell.hear()
+        return found
+
+    def test_each_has_its_own_text_and_answer(self):
+        texts = [PULSE.replace(b"200", length) for length in (b"8", b"16", b"24")]
+        starts = [((self.sim, "sim"), text) for text in texts]
+        self.assertEqual(self.shell.ask(starts[:1]), 1)
+        self.assertEqual(self.shell.ask(starts[1:]), 2)
+        self.assertEqual([ended[0] for ended in self.heard(3)], [0, 0, 0])
+        self.assertEqual(self.shell.ask(starts[::-1]), 3)
+        reports = [run(text.decode()).text.encode() for text in texts[::-1]]
+        self.assertEqual(self.heard(3), [(0, report, b"") for report in reports])
+
+    def test_words_that_differ(self):
+        rows = [("sim", "--cost", "900"), ("check",), ("sim", "--cost", "-1")]
+        self.assertEqual(self.shell.ask([((self.sim, *words), PULSE) for words in rows]), 3)
+        for words, ended in zip(rows, self.heard(3)):
+            answer = programs.start("artiq_sim", words, PULSE)
+            self.assertEqual(ended, (answer.status, answer.out.encode(), answer.err.encode()))
+
+    def test_one_that_is_not_started_between_others(self):
+        nothing = self.folder / "nothing"
+        self.assertEqual(self.shell.ask([((it, "sim"), PULSE) for it in (self.sim, nothing, self.sim)]), 3)
+        first, none, last = self.heard(3)
+        self.assertIsNone(none)
+        self.assertEqual((first, last), ((0, run(PULSE.decode()).text.encode(), b""),) * 2)
+
+    def test_there_is_room_for_so_many(self):
+        starts = [((self.sim, "sim"), PULSE)] * 4
+        self.assertEqual([self.shell.ask(starts), self.shell.ask(starts)], [3, 0])
+        self.assertEqual(len(self.heard(3)), 3)
+        self.assertEqual(self.shell.ask(starts[:2]), 2)
+        self.assertEqual(len(self.heard(2)), 2)
+
+    def test_words_that_no_shell_can_be_told(self):
+        for word in ("a\0b", "\ud800"):
+            start = (self.sim, "sim"), PULSE
+            self.assertEqual(self.shell.ask([start, ((self.sim, word), PULSE), start]), 1)
+            self.assertEqual(len(self.heard(1)), 1)
+
+    def test_what_is_withdrawn_is_not_begun(self):
+        gate, told = self.folder / "gate", self.folder / "told"
+        os.mkfifo(gate)
+        waiting, telling = ("/bin/sh", "-c", f"cat '{gate}'"), ("/bin/sh", "-c", f"echo x >> '{told}'")
+        self.assertEqual(self.shell.ask([(telling, b""), (waiting, b""), (telling, b"")]), 3)
+        # It is opened once the second one reads from it.
+        with open(gate, "wb"):
+            self.shell.withdraw()
+        self.shell.close()
+        self.assertEqual(told.read_text(), "x\n")
 
 
 if __name__ == "__main__":

@@ -236,7 +236,7 @@ class Tables(SimCase):
         self.assertEqual(self.table["wait"].dtype.kind, "i")
 
     def test_columns_without_numpy(self):
-        with mock.patch("buszlogem.table.numpy_or_none", return_value=None):
+        with mock.patch.dict("sys.modules", {"numpy": None}):
             self.assertEqual(self.table["length"], [400, 700, None])
 
 

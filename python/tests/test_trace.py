@@ -279,7 +279,7 @@ class Arrays(TraceCase):
 
     def test_without_numpy_the_same_are_tuples(self):
         found = trace(TIGHT)
-        with mock.patch("buszlogem.trace_report.numpy_or_none", return_value=None):
+        with mock.patch.dict("sys.modules", {"numpy": None}):
             self.assertEqual(found.outputs, list(found.outs))
 
 
