@@ -9,8 +9,6 @@ mod crews;
 #[cfg(test)]
 mod kits;
 #[cfg(test)]
-mod overtaking;
-#[cfg(test)]
 mod sessions;
 #[cfg(test)]
 mod standing;
